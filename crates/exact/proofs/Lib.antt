@@ -1,0 +1,13 @@
+pub mod Ring
+pub mod Order
+pub mod Tests
+pub mod Numbers
+pub mod Searches
+pub mod Sums
+pub mod Rooms
+pub mod Bits
+pub mod Divisors
+pub mod Reduced
+pub mod Verdicts
+pub mod Lawful
+pub mod Lists

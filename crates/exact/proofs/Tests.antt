@@ -1,0 +1,50 @@
+-- What a test tells, for `&&`, `||` and `all`. (borrow.Author.Tests has the tests on numbers.)
+use mathlib.Core.Path.{_≡_, refl, sym, subst}
+use mathlib.Core.Bool.{Bool, true, false, not, _&&_, _||_}
+use mathlib.Core.List.{List, [], _∷_, List·Memᴰ, List·Memᴰ·head, List·Memᴰ·tail, List·Memᴰ·not-nil}
+use lib.Dec.{T}
+use Rattle.exact.specs.Lists.{all}
+
+pub is-true : (b : Bool) → T b → b ≡ true
+is-true true h = refl
+is-true false h = absurd h
+
+pub is-false : (b : Bool) → ¬ (T b) → b ≡ false
+is-false true h = absurd (h tt)
+is-false false h = refl
+
+pub true-is : (b : Bool) → b ≡ true → T b
+true-is b e = rw e tt
+
+pub false-is : (b : Bool) → b ≡ false → ¬ (T b)
+false-is b e t = subst T e t
+
+-- ---- and, or
+
+pub both : (a b : Bool) → T (a && b) → T a × T b
+both true b t = (tt, t)
+both false b t = absurd t
+
+pub join : (a b : Bool) → T a → T b → T (a && b)
+join true b p q = q
+join false b p q = p
+
+pub neither : (a b : Bool) → (a || b) ≡ false → (a ≡ false) × (b ≡ false)
+neither true b e = absurd (subst T e tt)
+neither false b e = (refl, e)
+
+pub not-true : (b : Bool) → not b ≡ false → b ≡ true
+not-true true e = refl
+not-true false e = absurd (subst T e tt)
+
+-- ---- every member passes
+
+module _ {A : Type 0} (test : A → Bool) where
+  pub all-mem : (xs : List A) → T (all xs test) → (x : A) → List·Memᴰ x xs → T (test x)
+  all-mem [] t x m = absurd (List·Memᴰ·not-nil m)
+  all-mem (y ∷ ys) t x (List·Memᴰ·head e) = subst (λ z. T (test z)) (sym e) (both (test y) (all ys test) t .0)
+  all-mem (y ∷ ys) t x (List·Memᴰ·tail m) = all-mem ys (both (test y) (all ys test) t .1) x m
+
+  pub mem-all : (xs : List A) → ((x : A) → List·Memᴰ x xs → T (test x)) → T (all xs test)
+  mem-all [] h = tt
+  mem-all (y ∷ ys) h = join (test y) (all ys test) (h y (List·Memᴰ·head refl)) (mem-all ys (λ x m. h x (List·Memᴰ·tail m)))

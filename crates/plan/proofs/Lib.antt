@@ -1,0 +1,4 @@
+pub mod Loops
+pub mod Checks
+pub mod Sound
+pub mod Figures

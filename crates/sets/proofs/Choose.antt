@@ -1,0 +1,95 @@
+-- Sums over the sets of columns: over all sets of j members they are the elementary symmetric sums, worked out a member at a time.
+use mathlib.Core.Path.{_≡_, refl, sym, ap}
+use mathlib.Core.List.{List, [], _∷_, _++_, map, List·Memᴰ, List·Memᴰ·head, List·Memᴰ·tail}
+use Prim.Native.Nat.{ℕ, zero, suc, _<_}
+use native.Mathlib.Omega.{arith}
+use lib.ListN.{length}
+use lib.IntN.{ℤ, pos, _+ℤ_, _*ℤ_, +ℤ-comm, +ℤ-assoc, *ℤ-zero}
+use Rattle.exact.specs.Lists.{sum, prod}
+use Rattle.exact.proofs.Ring.{ring}
+use Rattle.exact.proofs.Sums.{sum-++, sum-map, sum-*}
+use Rattle.sets.specs.Sets.{choose}
+
+module _ {A : Type 0} where
+  -- every set of members of the list
+  abbrev pub subsets : List A → List (List A)
+  subsets [] = [] ∷ []
+  subsets (x ∷ xs) = map (λ I. x ∷ I) (subsets xs) ++ subsets xs
+
+  -- the sum, over the sets of j members, of the product of f over the set, a member at a time
+  abbrev pub esp : ℕ → List A → (A → ℤ) → ℤ
+  esp zero xs f = pos 1
+  esp (suc j) [] f = pos 0
+  esp (suc j) (x ∷ xs) f = f x *ℤ esp j xs f +ℤ esp (suc j) xs f
+
+module _ {A : Type 0} where
+  pub sum-choose : (j : ℕ) (xs : List A) (f : A → ℤ) → sum (choose j xs) (λ I. prod I f) ≡ esp j xs f
+  sum-choose zero xs f = refl
+  sum-choose (suc j) [] f = refl
+  sum-choose (suc j) (x ∷ xs) f =
+      rw (
+        sum-++ (map (λ I. x ∷ I) (choose j xs)) (choose (suc j) xs) (λ I. prod I f),
+        sum-map (λ I. x ∷ I) (choose j xs) (λ I. prod I f),
+        sum-choose (suc j) xs f,
+        sum-* (choose j xs) (f x) (λ I. prod I f),
+        sum-choose j xs f,
+      )
+
+  pub sum-subsets : (xs : List A) (f : A → ℤ) → sum (subsets xs) (λ I. prod I f) ≡ prod xs (λ x. f x +ℤ pos 1)
+  sum-subsets [] f = refl
+  sum-subsets (x ∷ xs) f =
+      rw (
+        sum-++ (map (λ I. x ∷ I) (subsets xs)) (subsets xs) (λ I. prod I f),
+        sum-map (λ I. x ∷ I) (subsets xs) (λ I. prod I f),
+        sum-* (subsets xs) (f x) (λ I. prod I f),
+        sum-subsets xs f,
+      ) (simp ring)
+
+  pub esp-cong-in : (j : ℕ) (xs : List A) {f g : A → ℤ} → ((x : A) → List·Memᴰ x xs → f x ≡ g x) → esp j xs f ≡ esp j xs g
+  esp-cong-in zero xs h = refl
+  esp-cong-in (suc j) [] h = refl
+  esp-cong-in (suc j) (x ∷ xs) {f} {g} h =
+      let others : (y : A) → List·Memᴰ y xs → f y ≡ g y = λ y m. h y (List·Memᴰ·tail m) in
+      rw (h x (List·Memᴰ·head refl), esp-cong-in j xs {f = f} {g = g} others, esp-cong-in (suc j) xs {f = f} {g = g} others)
+
+  -- no set has more members than the list
+  pub esp-above : (j : ℕ) (xs : List A) (f : A → ℤ) → length xs < j → esp j xs f ≡ pos 0
+  esp-above zero xs f h = absurd (omega arith)
+  esp-above (suc j) [] f h = refl
+  esp-above (suc j) (x ∷ xs) f h = rw (esp-above j xs f (omega arith), esp-above (suc j) xs f (omega arith)) (rw (*ℤ-zero (f x)))
+
+-- ---- one member more, at the end
+
+regroup : (x y a b c : ℤ) → y *ℤ (b +ℤ x *ℤ a) +ℤ (c +ℤ x *ℤ b) ≡ (y *ℤ b +ℤ c) +ℤ x *ℤ (y *ℤ a +ℤ b)
+regroup x y a b c = simp ring
+
+module _ {A : Type 0} where
+  pub esp-snoc : (j : ℕ) (xs : List A) (x : A) (f : A → ℤ) → esp (suc j) (xs ++ x ∷ []) f ≡ esp (suc j) xs f +ℤ f x *ℤ esp j xs f
+  esp-snoc j [] x f = +ℤ-comm (f x *ℤ esp j [] f) (pos 0)
+  esp-snoc zero (y ∷ xs) x f = rw (esp-snoc zero xs x f) (sym (+ℤ-assoc (f y *ℤ pos 1) (esp 1 xs f) (f x *ℤ pos 1)))
+  esp-snoc (suc j) (y ∷ xs) x f =
+      rw (esp-snoc j xs x f, esp-snoc (suc j) xs x f) (regroup (f x) (f y) (esp j xs f) (esp (suc j) xs f) (esp (suc (suc j)) xs f))
+
+-- in a row of sums each becomes itself plus x times the one before it
+abbrev pub carry : ℤ → ℤ → List ℤ → List ℤ
+carry x a [] = []
+carry x a (b ∷ bs) = (b +ℤ x *ℤ a) ∷ carry x b bs
+
+abbrev pub widen : ℤ → List ℤ → List ℤ
+widen x [] = []
+widen x (a ∷ bs) = a ∷ carry x a bs
+
+module _ {A : Type 0} where
+  -- the n sums from length j on
+  abbrev pub espsFrom : ℕ → ℕ → List A → (A → ℤ) → List ℤ
+  espsFrom j zero xs f = []
+  espsFrom j (suc n) xs f = esp j xs f ∷ espsFrom (suc j) n xs f
+
+  carry-esps : (j n : ℕ) (xs : List A) (x : A) (f : A → ℤ) →
+      carry (f x) (esp j xs f) (espsFrom (suc j) n xs f) ≡ espsFrom (suc j) n (xs ++ x ∷ []) f
+  carry-esps j zero xs x f = refl
+  carry-esps j (suc n) xs x f = rw (esp-snoc j xs x f, carry-esps (suc j) n xs x f)
+
+  pub widen-esps : (n : ℕ) (xs : List A) (x : A) (f : A → ℤ) →
+      widen (f x) (espsFrom zero (suc n) xs f) ≡ espsFrom zero (suc n) (xs ++ x ∷ []) f
+  widen-esps n xs x f = ap (λ l. pos 1 ∷ l) (carry-esps zero n xs x f)

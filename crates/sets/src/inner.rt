@@ -1,0 +1,78 @@
+// For our own crates: the place of a set among the sets of its size, whatever the size.
+use crate::binomials::BINOMIALS;
+ghost use mathlib.Core.Path.{_≡_};
+ghost use Prim.Native.Nat.{_≤_, _<_};
+ghost use lib.Dec.{T};
+ghost use Rattle.exact.specs.Lists.{filledTo};
+ghost use Rattle.rules.specs.Refusals.{isSet};
+ghost use Rattle.sets.specs.Sets.{binom, placeOf, setAt};
+
+// The number of sets of b of a columns.
+pub fn binomial(a: usize, b: usize) -> usize
+    requires { ⌜ (a ≤ 24) × (b ≤ 24) ⌝ }
+    ensures { λ r. ⌜ r ≡ binom a b ⌝ }
+{
+    let i = a * 25 + b;
+    BINOMIALS[i]
+}
+
+// Whether the numbers are columns of m, rising.
+pub fn is_set(m: usize, columns: &[usize]) -> bool
+    ensures { λ r. ⌜ r ≡ isSet m (now (columns .entry)) ⌝ }
+{
+    let mut low = 0;
+    let mut i = 0;
+    while i < columns.len() {
+        let column = columns[i];
+        if column < low {
+            return false;
+        }
+        if m <= column {
+            return false;
+        }
+        low = column + 1;
+        i += 1;
+    }
+    true
+}
+
+// The place of a set among the sets of its size of m columns. A column that is left out passes the sets that have it.
+pub fn place(m: usize, columns: &[usize]) -> usize
+    requires { ⌜ (m ≤ 24) × T (isSet m (now columns)) ⌝ }
+    ensures { λ r. ⌜ r ≡ placeOf m (now (columns .entry)) ⌝ }
+{
+    let mut place = 0;
+    let mut column = 0;
+    let mut taken = 0;
+    while taken < columns.len() {
+        if columns[taken] == column {
+            taken += 1;
+        } else {
+            place += binomial(m - column - 1, columns.len() - taken - 1);
+        }
+        column += 1;
+    }
+    place
+}
+
+// The set at place k among the sets of j of m columns, then zeros. The sets that have the column come first.
+pub fn set_at(m: usize, j: usize, k: usize) -> [usize; 24]
+    requires { ⌜ (m ≤ 24) × (j ≤ m) × (k < binom m j) ⌝ }
+    ensures { λ r. ⌜ r ≡ filledTo 24 0 (setAt m j k) ⌝ }
+{
+    let mut columns = [0; 24];
+    let mut left = k;
+    let mut column = 0;
+    let mut taken = 0;
+    while taken < j {
+        let having = binomial(m - column - 1, j - taken - 1);
+        if left < having {
+            columns[taken] = column;
+            taken += 1;
+        } else {
+            left -= having;
+        }
+        column += 1;
+    }
+    columns
+}
