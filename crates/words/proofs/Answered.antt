@@ -1,0 +1,79 @@
+-- What stands beside a refusal, and the answers of a whole plan.
+use mathlib.Core.Path.{_≡_, refl, sym, _∙_, ap}
+use mathlib.Core.List.{List, [], _++_, List·Memᴰ·head, List·Memᴰ·tail, List·Memᴰ·not-nil}
+use Prim.Native.Nat.{ℕ, _+_, _-_, _≤_}
+use native.Mathlib.Omega.{arith}
+use borrow.Author.Tests.{ltb-false}
+use lib.Dec.{T}
+use lib.ListN.{getD, take, replicate}
+use lib.Seq.{take-at}
+use lib.IntN.{pos}
+use Rattle.exact.specs.Lists.{from, product}
+use Rattle.exact.proofs.Numbers.{length-from}
+use Rattle.rules.specs.declared.Refusal.{Refusal}
+use Rattle.rules.specs.Plan.{Plan, plan, columns, level, entry, everyColumn, mostColumns, mostRuns, highestProduct}
+use Rattle.rules.specs.Refusals.{Check, refusal, unless, ofPlan, accepted, levelChecks, badColumns, badLevel, badProduct, planChecks}
+use Rattle.rules.proofs.Ranges.{unless-refused, unless-accepted}
+use Rattle.rules.proofs.Order.{inTurn, passed-none}
+use Rattle.plan.specs.Good.{Sound}
+use Rattle.plan.proofs.Checks.{columns-passed, levels-passed, passed-good, good-passed, plan-refused, plan-passed}
+use Rattle.words.specs.Words.{word}
+use Rattle.words.specs.Answers.{wordList}
+use Rattle.words.proofs.Rows.{map-from-at}
+
+-- ---- an answer is made of the call's refusal q and the value, which is blank in a refusal
+
+module _ {A B : Type 0} (make : Refusal → A → B) (blank value : A) where
+  abbrev pub answer : Refusal → B
+  answer q = make q (unless q blank value)
+
+  pub answer-refused : {q r : Refusal} → q ≡ r → ¬ (r .number ≡ 0) → make r blank ≡ answer q
+  answer-refused {q} {r} e n = rw e (ap (make r) (sym (unless-refused r blank value n)))
+
+  pub answer-accepted : {q r : Refusal} → q ≡ r → r .number ≡ 0 → make r value ≡ answer q
+  answer-accepted {q} {r} e z = rw e (ap (make r) (sym (unless-accepted r blank value z)))
+
+  -- of a call on a plan: r is what `plan::check` gave, and the call's own checks stand later in the order
+  module _ (p : Plan) (checks : List Check) (turn : T (inTurn (planChecks p) checks)) {r : Refusal} (e : r ≡ refusal (planChecks p)) where
+    pub call-refused : ¬ (r .number ≡ 0) → make r blank ≡ answer (refusal (ofPlan p checks))
+    call-refused n = answer-refused (plan-refused p checks turn e n) n
+
+    pub call-own : {q : Refusal} → r .number ≡ 0 → refusal checks ≡ q → ¬ (q .number ≡ 0) → make q blank ≡ answer (refusal (ofPlan p checks))
+    call-own z own n = answer-refused (plan-passed p checks turn e z ∙ own) n
+
+    pub call-accepted : r .number ≡ 0 → refusal checks ≡ accepted → make r value ≡ answer (refusal (ofPlan p checks))
+    call-accepted z own = answer-accepted (plan-passed p checks turn e z ∙ own ∙ sym (e ∙ good-passed p (passed-good p e z))) z
+
+-- ---- what the routines of a whole plan are lent
+
+-- the front of the room that holds the numbers of n runs
+pub run-front : (n : ℕ) → take n (from 0 n ++ replicate (mostRuns - n) 0) ≡ from 0 n
+run-front n = take-at (from 0 n) (replicate (mostRuns - n) 0) n (length-from 0 n)
+
+-- levels that pass, with no runs
+pub levels-sound : (levels : List ℕ) {r : Refusal} → r ≡ refusal (levelChecks (plan levels [])) → r .number ≡ 0 → Sound (plan levels []) []
+levels-sound levels e z =
+    let p = plan levels [] in
+    let passes = passed-none (levelChecks p) tt e z in
+    let m = columns-passed (columns p) (passes (badColumns (columns p)) (List·Memᴰ·head refl)) in
+    let s = levels-passed p (passes (badLevel p) (List·Memᴰ·tail (List·Memᴰ·head refl))) in
+    record {
+      columns-high = m .1;
+      level-low = λ i h. omega (arith, s i h .0);
+      level-high = λ i h. s i h .1;
+      small = ltb-false highestProduct (product levels) (passes (badProduct p) (List·Memᴰ·tail (List·Memᴰ·tail (List·Memᴰ·head refl))));
+      few = omega arith;
+      numbered = λ f n. absurd (List·Memᴰ·not-nil n);
+      inside = λ f n. absurd (List·Memᴰ·not-nil n);
+      below = λ f n. absurd (List·Memᴰ·not-nil n);
+    }
+
+-- ---- the word of one length
+
+pub word-at : (p : Plan) (rs : List ℕ) (j : ℕ) → 1 ≤ j → j ≤ mostColumns →
+    getD (wordList p rs) (j - 1) (pos 0) ≡ word (level p) (entry p) rs (everyColumn p) j
+unfolding wordList
+word-at p rs j l h =
+    let W = word (level p) (entry p) rs (everyColumn p) in
+    let e : 1 + (j - 1) ≡ j = omega arith in
+    map-from-at W 1 mostColumns (j - 1) (pos 0) (omega arith) ∙ ap W e

@@ -1,0 +1,61 @@
+-- Document 01, "Worked figures": words and row sums of these plans, from the definitions.
+use mathlib.Core.Path.{_≡_, refl}
+use mathlib.Core.List.{List, [], _∷_, map}
+use Prim.Native.Nat.{ℕ}
+use lib.IntN.{ℤ, pos, negsuc}
+use Rattle.exact.specs.Lists.{from}
+use Rattle.rules.specs.Plan.{Plan, plan, columns, level, entry, everyColumn, everyRun}
+use Rattle.words.specs.Words.{score, wordOf, word, rowSum}
+
+-- of the runs rs of a plan: W_1 to W_m, or the row sums of length j of each of the runs
+data Question : Type 0 where
+  words : Plan → List ℕ → Question
+  rowSums : Plan → List ℕ → ℕ → Question
+
+ask : Question → List ℤ
+unfolding score wordOf word rowSum
+ask (words p rs) = map (word (level p) (entry p) rs (everyColumn p)) (from 1 (columns p))
+ask (rowSums p rs j) = map (rowSum (level p) (entry p) rs (everyColumn p) j) rs
+
+record Figure : Type 0 where
+  question : Question
+  answer : List ℤ
+
+abbrev is : Question → List ℤ → Figure
+is q a = record { question = q; answer = a }
+
+-- levels 2,3, runs 00 01 12
+abbrev listed : Plan
+listed = plan (2 ∷ 3 ∷ []) (0 ∷ 0 ∷ 0 ∷ 1 ∷ 1 ∷ 2 ∷ [])
+
+-- levels 2,2,2, runs 000 011 101 110
+abbrev half : Plan
+half = plan (2 ∷ 2 ∷ 2 ∷ []) (0 ∷ 0 ∷ 0 ∷ 0 ∷ 1 ∷ 1 ∷ 1 ∷ 0 ∷ 1 ∷ 1 ∷ 1 ∷ 0 ∷ [])
+
+-- levels 3,2, all six runs, and one run
+abbrev full : Plan
+full = plan (3 ∷ 2 ∷ []) (0 ∷ 0 ∷ 0 ∷ 1 ∷ 1 ∷ 0 ∷ 1 ∷ 1 ∷ 2 ∷ 0 ∷ 2 ∷ 1 ∷ [])
+
+abbrev single : Plan
+single = plan (3 ∷ 2 ∷ []) (2 ∷ 1 ∷ [])
+
+-- in the paper's order, after the words that the listing prints; a struck run is left out of the list
+figures : List Figure
+figures =
+    is (words listed (everyRun listed)) (pos 1 ∷ pos 8 ∷ [])
+    ∷ is (rowSums listed (everyRun listed) 1) (pos 1 ∷ pos 1 ∷ negsuc 0 ∷ [])
+    ∷ is (rowSums listed (everyRun listed) 2) (pos 2 ∷ pos 2 ∷ pos 4 ∷ [])
+    ∷ is (words listed (1 ∷ 2 ∷ [])) (pos 2 ∷ pos 6 ∷ [])
+    ∷ is (words listed (0 ∷ 1 ∷ [])) (pos 6 ∷ pos 2 ∷ [])
+    ∷ is (words half (everyRun half)) (pos 0 ∷ pos 0 ∷ pos 16 ∷ [])
+    ∷ is (words half (1 ∷ 2 ∷ 3 ∷ [])) (pos 3 ∷ pos 3 ∷ pos 9 ∷ [])
+    ∷ is (words half (0 ∷ 2 ∷ 3 ∷ [])) (pos 3 ∷ pos 3 ∷ pos 9 ∷ [])
+    ∷ is (words half (0 ∷ 1 ∷ 3 ∷ [])) (pos 3 ∷ pos 3 ∷ pos 9 ∷ [])
+    ∷ is (words half (0 ∷ 1 ∷ 2 ∷ [])) (pos 3 ∷ pos 3 ∷ pos 9 ∷ [])
+    ∷ is (words full (everyRun full)) (pos 0 ∷ pos 0 ∷ [])
+    ∷ is (words single (everyRun single)) (pos 3 ∷ pos 2 ∷ [])
+    ∷ []
+
+words-figures : map (λ c. ask (c .question)) figures ≡ map (λ c. c .answer) figures
+unfolding ask figures
+words-figures = refl

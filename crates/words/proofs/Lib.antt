@@ -1,0 +1,11 @@
+pub mod Laws
+pub mod Bound
+pub mod Squares
+pub mod Positive
+pub mod Rows
+pub mod Columns
+pub mod Marked
+pub mod Totals
+pub mod OfPlan
+pub mod Answered
+pub mod Figures

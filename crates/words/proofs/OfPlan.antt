@@ -1,0 +1,142 @@
+-- The laws, of some runs of a plan.
+use mathlib.Core.Path.{_≡_, refl, sym}
+use mathlib.Core.Bool.{Bool, cond}
+use mathlib.Core.List.{List, [], _∷_, List·Memᴰ, List·Memᴰ·head, List·Memᴰ·eq-of-singleton}
+use Prim.Native.Nat.{ℕ, _*_, _^_, _≤_, _<_}
+use native.Mathlib.Nat.{le-trans, mul-le-mul}
+use native.Mathlib.Omega.{arith}
+use lib.IntN.{ℤ, pos, natAbs, _-ℤ_}
+use lib.ListN.{length, take, drop, replicate}
+use lib.Signed.{_≤ℤ_}
+use Rattle.exact.specs.Lists.{product}
+use Rattle.exact.proofs.Numbers.{length-from, mem-from, mul-below}
+use Rattle.rules.specs.Plan.{Plan, columns, level, entry, everyColumn, mostRuns, highestProduct}
+use Rattle.plan.specs.Good.{Sound}
+use Rattle.words.specs.Words.{scoreAt, pairSum, rowSum, word, diagonal}
+use Rattle.words.specs.declared.Sums.{Sums}
+use Rattle.words.specs.Answers.{byLength, zeros, pairList, rowList, rowsByRun, wordList, diagonalList}
+use Rattle.words.proofs.Laws.{pair-esp, diagonal-esp, row-pairs, word-rows, word-above}
+use Rattle.words.proofs.Bound.{BelowLevels, score-bound, diagonal-bound, pair-bound, row-bound, word-bound}
+use Rattle.words.proofs.Positive.{word-nonneg}
+use Rattle.words.proofs.Columns.{soFar, level-product}
+use Rattle.words.proofs.Rows.{map-from-cong}
+use Rattle.words.proofs.Totals.{totals}
+use Rattle.words.proofs.Marked.{marked}
+
+-- ---- the lists of the answers are sums over runs
+
+module _ (p : Plan) where
+  pub pair-so-far : (f g : ℕ) → soFar (scoreAt (level p) (entry p) f g) (columns p) ≡ pairList p f g
+  unfolding soFar pairList
+  pair-so-far f g = map-from-cong 0 25 (λ j. sym (pair-esp (level p) (entry p) (everyColumn p) j f g))
+
+  -- what the pair f, g adds to the word of length j
+  abbrev pub ofPair : ℕ → ℕ → ℕ → ℤ
+  ofPair f j g = pairSum (level p) (entry p) (everyColumn p) j f g
+
+  pub pair-longer : (f g : ℕ) → take 24 (drop 1 (pairList p f g)) ≡ byLength (λ j. ofPair f j g)
+  unfolding pairList
+  pair-longer f g = refl
+
+  pub row-totals : (rs : List ℕ) (f : ℕ) → totals (ofPair f) rs ≡ rowList p rs f
+  unfolding totals rowList
+  row-totals rs f = map-from-cong 1 24 (λ j. sym (row-pairs (level p) (entry p) rs (everyColumn p) j f))
+
+  -- what run f adds to the word of length j
+  abbrev pub ofRow : List ℕ → ℕ → ℕ → ℤ
+  ofRow rs j f = rowSum (level p) (entry p) rs (everyColumn p) j f
+
+  pub row-by-length : (rs : List ℕ) (f : ℕ) → rowList p rs f ≡ byLength (λ j. ofRow rs j f)
+  unfolding rowList
+  row-by-length rs f = refl
+
+  pub word-totals : (rs : List ℕ) → totals (ofRow rs) rs ≡ wordList p rs
+  unfolding totals wordList
+  word-totals rs = map-from-cong 1 24 (λ j. sym (word-rows (level p) (entry p) rs (everyColumn p) j))
+
+  -- the level of column i, less one
+  abbrev pub lessOne : ℕ → ℤ
+  lessOne i = pos (level p i) -ℤ pos 1
+
+  pub diagonal-longer : take 24 (drop 1 (soFar lessOne (columns p))) ≡ diagonalList p
+  unfolding soFar diagonalList
+  diagonal-longer = map-from-cong 1 24 (λ j. sym (diagonal-esp (level p) (everyColumn p) j))
+
+  pub diagonal-by-length : diagonalList p ≡ byLength (diagonal (level p) (everyColumn p))
+  unfolding diagonalList
+  diagonal-by-length = refl
+
+  -- what the place of a run holds: its row sums where it is one of the runs, and zeros where it is not
+  abbrev pub place : List ℕ → Bool → ℕ → Sums
+  place rs b f = record { sums = cond b (rowList p rs f) zeros }
+
+  pub rows-none : (rs : List ℕ) → marked (place rs) mostRuns [] ≡ replicate mostRuns (record { sums = zeros })
+  unfolding marked
+  rows-none rs = refl
+
+  pub rows-marked : (rs : List ℕ) → marked (place rs) mostRuns rs ≡ rowsByRun p rs
+  unfolding marked rowsByRun
+  rows-marked rs = refl
+
+-- ---- how large they are, and no word is negative
+
+module _ (p : Plan) (rs : List ℕ) (S : Sound p rs) where
+  below-levels : (f : ℕ) → List·Memᴰ f rs → BelowLevels (level p) (entry p) (everyColumn p) f
+  below-levels f m i k = let q = mem-from 0 (columns p) k in S .below f m i (omega arith)
+
+  -- some of the runs, in any order, and each of them alone
+  pub sound-some : (qs : List ℕ) → length qs ≤ mostRuns → ((f : ℕ) → List·Memᴰ f qs → List·Memᴰ f rs) → Sound p qs
+  sound-some qs few part = record {
+    columns-high = S .columns-high;
+    level-low = S .level-low;
+    level-high = S .level-high;
+    small = S .small;
+    few = few;
+    numbered = λ f m. S .numbered f (part f m);
+    inside = λ f m. S .inside f (part f m);
+    below = λ f m. S .below f (part f m);
+  }
+
+  pub sound-run : (f : ℕ) → List·Memᴰ f rs → Sound p (f ∷ [])
+  sound-run f m = sound-some (f ∷ []) (omega arith) (λ g n. rw (List·Memᴰ·eq-of-singleton n) m)
+
+  pub row-small : (f : ℕ) → Sound p (f ∷ []) → (j : ℕ) → natAbs (rowSum (level p) (entry p) rs (everyColumn p) j f) ≤ mostRuns * highestProduct
+  row-small f F j =
+      le-trans
+      (row-bound (level p) (entry p) (everyColumn p) rs below-levels f
+      (λ i k. let q = mem-from 0 (columns p) k in F .below f (List·Memᴰ·head refl) i (omega arith)) j)
+      (rw (level-product p) (mul-below (length rs) (product (p .levels)) mostRuns highestProduct (S .few) (S .small)))
+
+  pub word-small : (j : ℕ) → natAbs (word (level p) (entry p) rs (everyColumn p) j) ≤ mostRuns * (mostRuns * highestProduct)
+  word-small j =
+      le-trans (word-bound (level p) (entry p) (everyColumn p) rs below-levels j)
+      (rw (level-product p) (mul-le-mul (S .few) (mul-le-mul (S .few) (S .small))))
+
+  -- document 01, "Sizes"
+  pub word-fits : (j : ℕ) → natAbs (word (level p) (entry p) rs (everyColumn p) j) * 65_536 < 2 ^ 63
+  word-fits j = omega (arith, word-small j)
+
+  pub word-not-negative : (j : ℕ) → pos 0 ≤ℤ word (level p) (entry p) rs (everyColumn p) j
+  word-not-negative =
+      word-nonneg (level p) (entry p) rs (everyColumn p)
+      (λ i k. let q = mem-from 0 (columns p) k in (S .level-low i (omega arith), λ f m. S .below f m i (omega arith)))
+
+pub diagonal-small : (p : Plan) (rs : List ℕ) → Sound p rs → (j : ℕ) → natAbs (diagonal (level p) (everyColumn p) j) ≤ highestProduct
+diagonal-small p rs S j =
+    le-trans (diagonal-bound (level p) (everyColumn p) (λ i k. let q = mem-from 0 (columns p) k in S .level-low i (omega arith)) j)
+    (rw (level-product p) (S .small))
+
+pub word-none : (p : Plan) (rs : List ℕ) (j : ℕ) → columns p < j → word (level p) (entry p) rs (everyColumn p) j ≡ pos 0
+word-none p rs j h = word-above (level p) (entry p) rs (everyColumn p) j (rw (length-from 0 (columns p)) h)
+
+module _ (p : Plan) (f g : ℕ) (F : Sound p (f ∷ [])) (G : Sound p (g ∷ [])) where
+  pub score-below : (i : ℕ) → i < columns p → natAbs (scoreAt (level p) (entry p) f g i) < level p i
+  score-below i h =
+      score-bound (level p i) (entry p f i) (entry p g i) (F .below f (List·Memᴰ·head refl) i h) (G .below g (List·Memᴰ·head refl) i h)
+
+  pub pair-small : (j : ℕ) → natAbs (pairSum (level p) (entry p) (everyColumn p) j f g) ≤ highestProduct
+  pair-small j =
+      le-trans
+      (pair-bound (level p) (entry p) (everyColumn p) f g (below-levels p (f ∷ []) F f (List·Memᴰ·head refl))
+      (below-levels p (g ∷ []) G g (List·Memᴰ·head refl)) j)
+      (rw (level-product p) (F .small))

@@ -1,0 +1,71 @@
+-- Sums over the runs so far, for each word length: a row over its pairs, the words over the rows.
+use mathlib.Core.Path.{_≡_, refl, sym, _∙_, ap}
+use mathlib.Core.List.{List, [], _∷_, _++_, List·Memᴰ, List·Memᴰ·head, List·Memᴰ·tail, List·Memᴰ·not-nil}
+use Prim.Native.Nat.{ℕ, zero, suc, _+_, _*_, _≤_, _<_}
+use native.Mathlib.Decide.{decLt}
+use native.Mathlib.Nat.{le-trans, mul-le-mul-right}
+use native.Mathlib.Numerals.{add-one}
+use native.Mathlib.Omega.{arith}
+use lib.ListN.{length, getD, take, length-take, List·getD-eq-default}
+use lib.Seq.{take-suc}
+use lib.IntN.{ℤ, pos, natAbs, _+ℤ_, +ℤ-idl, +ℤ-idr}
+use Rattle.exact.specs.Lists.{sum}
+use Rattle.exact.proofs.Sums.{sum-++}
+use Rattle.rules.specs.Plan.{mostColumns, mostRuns}
+use Rattle.words.specs.Given.{Row, added}
+use Rattle.words.specs.Answers.{byLength, zeros}
+use Rattle.words.proofs.Bound.{sum-bound}
+use Rattle.words.proofs.Rows.{length-map-from, map-from-at, map-from-cong}
+
+-- ---- members of a list
+
+module _ {A : Type 0} where
+  pub take-mem : (k : ℕ) (xs : List A) (x : A) → List·Memᴰ x (take k xs) → List·Memᴰ x xs
+  take-mem zero xs x m = absurd (List·Memᴰ·not-nil m)
+  take-mem (suc k) [] x m = m
+  take-mem (suc k) (y ∷ ys) x (List·Memᴰ·head e) = List·Memᴰ·head e
+  take-mem (suc k) (y ∷ ys) x (List·Memᴰ·tail m) = List·Memᴰ·tail (take-mem k ys x m)
+
+-- ---- a number for each length
+
+pub by-length-row : (F : ℕ → ℤ) (b : ℕ) → ((j : ℕ) → natAbs (F j) ≤ b) → Row b (byLength F)
+by-length-row F b h = record { long = length-map-from F 1 mostColumns; small = λ k. small k (decLt k 24) }
+  where
+    small : (k : ℕ) → Dec (k < 24) → natAbs (getD (byLength F) k (pos 0)) ≤ b
+    small k (yes l) = rw (map-from-at F 1 mostColumns k (pos 0) l) (h (1 + k))
+    small k (no n) = rw (List·getD-eq-default (byLength F) (pos 0) {n = k} (omega (arith, length-map-from F 1 mostColumns))) (omega arith)
+
+pub added-by-length : (F G : ℕ → ℤ) → added (byLength F) (byLength G) ≡ byLength (λ j. F j +ℤ G j)
+unfolding added
+added-by-length F G = refl
+
+pub added-zeros : (F : ℕ → ℤ) → added zeros (byLength F) ≡ byLength F
+added-zeros F = added-by-length (λ j. pos 0) F ∙ map-from-cong 1 mostColumns (λ j. +ℤ-idl (F j))
+
+-- ---- summed over some runs, where run g gives F j g for length j
+
+module _ {R : Type 0} (F : ℕ → R → ℤ) where
+  unfoldable pub totals : List R → List ℤ
+  totals runs = byLength (λ j. sum runs (F j))
+
+  pub totals-none : totals [] ≡ zeros
+  unfolding totals
+  totals-none = refl
+
+  pub totals-next : (runs : List R) (k : ℕ) (d : R) → k < length runs →
+      added (totals (take k runs)) (byLength (λ j. F j (getD runs k d))) ≡ totals (take (k + 1) runs)
+  unfolding totals
+  totals-next runs k d h =
+      added-by-length (λ j. sum (take k runs) (F j)) (λ j. F j (getD runs k d))
+      ∙ map-from-cong 1 mostColumns (λ j.
+      ap (λ z. sum (take k runs) (F j) +ℤ z) (sym (+ℤ-idr (F j (getD runs k d))))
+      ∙ sym (sum-++ (take k runs) (getD runs k d ∷ []) (F j))
+      ∙ ap (λ l. sum l (F j)) (sym (take-suc runs k d h) ∙ ap (λ n. take n runs) (sym (add-one k))))
+
+  pub totals-row : (runs : List R) (k b c : ℕ) → length runs ≤ mostRuns → mostRuns * b ≤ c →
+      ((g : R) → List·Memᴰ g runs → (j : ℕ) → natAbs (F j g) ≤ b) → Row c (totals (take k runs))
+  unfolding totals
+  totals-row runs k b c few fits h =
+      let short : length (take k runs) ≤ mostRuns = omega (arith, length-take k runs) in
+      by-length-row (λ j. sum (take k runs) (F j)) c
+      (λ j. le-trans (sum-bound (take k runs) (F j) b (λ g m. h g (take-mem k runs g m) j)) (le-trans (mul-le-mul-right b short) fits))

@@ -1,0 +1,123 @@
+-- `words::inner::add_to` meets its contract: below length j the sums are the new ones, and a turn adds to the old.
+use mathlib.Core.Path.{_≡_, refl, _∙_, ap, ap₂}
+use mathlib.Core.List.{List, map}
+use Prim.Native.Nat.{ℕ, _+_, _-_, _^_, _≤_, _<_}
+use native.Mathlib.Omega.{arith}
+use lib.IntN.{ℤ, pos, natAbs, _+ℤ_}
+use lib.ListN.{length, getD, set}
+use mir.Syntax.{w64}
+use mir.Val.{toZ, ofZ}
+use Rattle.exact.proofs.Bits.{fits, back, of}
+use Rattle.exact.proofs.Order.{natAbs-+}
+use Rattle.exact.specs.Lists.{from}
+use Rattle.exact.proofs.Rooms.{begun, write-next, read-next, all-written}
+use Rattle.words.specs.Given.{added}
+use Rattle.words.proofs.inner.add_to.Statement.{statement}
+use Rattle.words.proofs.inner.add_to.Tie as tie
+
+abbrev both : List ℤ → List ℤ → ℕ → ℤ
+both row more k = getD row k (pos 0) +ℤ getD more k (pos 0)
+
+abbrev Inv-loop : tie.InvT-loop
+Inv-loop total₀ more j₀ total j = (j ≤ 24) × (total ≡ begun (both total₀ more) total₀ j)
+
+abbrev μ-loop : tie.MeasureT-loop
+μ-loop total₀ more j₀ total j = 24 - j
+
+loop-holds : tie.Need-loop-holds Inv-loop μ-loop
+loop-holds c = (omega arith, refl)
+
+mul-add : tie.Need-mul-add Inv-loop μ-loop
+mul-add c = omega arith
+
+element-copy-out-add : tie.Need-element-copy-out-add Inv-loop μ-loop
+element-copy-out-add c = omega arith
+
+mul-add-2 : tie.Need-mul-add-2 Inv-loop μ-loop
+mul-add-2 c = omega arith
+
+shared-slice-copy-out-add : tie.Need-shared-slice-copy-out-add Inv-loop μ-loop
+shared-slice-copy-out-add c = omega arith
+
+-- the two rows, and what a turn reads of them
+module _ (l : tie.At-loop Inv-loop μ-loop) (h : l .loop .j < 24) where
+  abbrev row : List ℤ
+  row = l .before .args .total .now
+
+  abbrev more : List ℤ
+  more = l .before .args .more .now
+
+  long : length row ≡ 24
+  long = l .before .pre .0 .long
+
+  abbrev old : ℤ
+  old = getD row (l .loop .j) (pos 0)
+
+  abbrev new : ℤ
+  new = getD more (l .loop .j) (pos 0)
+
+  small : natAbs (old +ℤ new) < 2 ^ 63
+  small = omega (arith, natAbs-+ old new, l .before .pre .0 .small (l .loop .j), l .before .pre .1 .small (l .loop .j))
+
+  read-old : toZ w64 (ofZ w64 (getD (l .loop .total) (l .loop .j) (pos 0))) ≡ old
+  read-old =
+      ap (λ out. toZ w64 (ofZ w64 (getD out (l .loop .j) (pos 0)))) (l .loop .inv .1)
+      ∙ ap (λ z. toZ w64 (ofZ w64 z)) (read-next (both row more) row (l .loop .j) (pos 0) (omega (arith, long)))
+      ∙ back (fits old (omega (arith, l .before .pre .0 .small (l .loop .j))))
+
+  read-new : toZ w64 (ofZ w64 new) ≡ new
+  read-new = back (fits new (omega (arith, l .before .pre .1 .small (l .loop .j))))
+
+add-requires : tie.Need-add-requires Inv-loop μ-loop
+add-requires c κs =
+    let l = c .before .before .before in
+    let h : l .loop .j < 24 = omega arith in
+    rw (read-old l h, read-new l h) (small l h)
+
+mul-t13 : tie.Need-mul-t13 Inv-loop μ-loop
+mul-t13 c = omega arith
+
+element-set-from-total : tie.Need-element-set-from-total Inv-loop μ-loop
+element-set-from-total c = omega arith
+
+add-j : tie.Need-add-j Inv-loop μ-loop
+add-j c = omega arith
+
+loop-less : tie.Need-loop-less Inv-loop μ-loop
+loop-less c = omega arith
+
+loop-again : tie.Need-loop-again Inv-loop μ-loop
+loop-again c =
+    let l = c .before .before .before .before in
+    let h : l .loop .j < 24 = omega arith in (
+      omega arith,
+      ap₂ (λ out x. set out (l .loop .j) x) (l .loop .inv .1)
+          (of (c .add .result) (c .add .ok) ∙ c .add .ensures ∙ ap₂ (λ a b. a +ℤ b) (read-old l h) (read-new l h))
+          ∙ (write-next (both (row l h) (more l h)) (row l h) (l .loop .j) (pos 0) (omega (arith, long l h))),
+    )
+
+returns : tie.Need-returns Inv-loop μ-loop
+unfolding added
+returns c =
+    let l = c .before in let row = l .before .args .total .now in let more = l .before .args .more .now in
+    let e : l .loop .j ≡ 24 = omega arith in
+    l .loop .inv .1 ∙ all-written (both row more) row (l .loop .j) (omega (arith, l .before .pre .0 .long)) ∙ ap (λ n. map (both row more) (from 0 n)) e
+
+pub add-to-spec : {M : Type 1} → statement M
+add-to-spec =
+    tie.close
+    (tie.spec
+    Inv-loop
+    μ-loop
+    loop-holds
+    mul-add
+    element-copy-out-add
+    mul-add-2
+    shared-slice-copy-out-add
+    add-requires
+    mul-t13
+    element-set-from-total
+    add-j
+    loop-less
+    loop-again
+    returns)

@@ -1,0 +1,121 @@
+-- `words::inner::row` meets its contract: before each turn the total is that of the runs passed.
+use mathlib.Core.Path.{_≡_, refl, sym, _∙_, ap, ap₂}
+use mathlib.Core.List.{List, [], _∷_, List·Memᴰ}
+use Prim.Native.Nat.{ℕ, _-_, _^_, _≤_}
+use native.Mathlib.Omega.{arith}
+use lib.IntN.{ℤ, natAbs}
+use lib.ListN.{length, getD, take, drop}
+use lib.Seq.{take-length}
+use Rattle.rules.specs.Plan.{Plan, plan, highestProduct}
+use Rattle.words.proofs.Totals.{by-length-row, totals, totals-none, totals-next, totals-row}
+use Rattle.words.specs.Given.{added}
+use Rattle.words.specs.Answers.{byLength}
+use Rattle.sets.proofs.Pascal.{getD-mem}
+use Rattle.plan.specs.Good.{Sound}
+use Rattle.words.proofs.OfPlan.{ofPair, pair-longer, row-totals, sound-run, pair-small}
+use Rattle.words.proofs.inner.row.Statement.{statement}
+use Rattle.words.proofs.inner.row.Tie as tie
+
+abbrev Inv-loop : tie.InvT-loop
+Inv-loop levels table runs f total₀ k₀ k-end total k =
+    (k-end ≡ length runs) × (k ≤ k-end) × (total ≡ totals (ofPair (plan levels table) f) (take k runs))
+
+abbrev μ-loop : tie.MeasureT-loop
+μ-loop levels table runs f total₀ k₀ k-end total k = k-end - k
+
+loop-holds : tie.Need-loop-holds Inv-loop μ-loop
+loop-holds c = (refl, omega arith, sym (totals-none _))
+
+mul-pair : tie.Need-mul-pair Inv-loop μ-loop
+mul-pair c = omega arith
+
+shared-slice-read-pair : tie.Need-shared-slice-read-pair Inv-loop μ-loop
+shared-slice-read-pair c = omega arith
+
+-- the plan, what each run adds to the row of run f, and a turn's run
+module _ (l : tie.At-loop Inv-loop μ-loop) where
+  abbrev start : tie.Start Inv-loop μ-loop
+  start = l .before .before .before .before
+
+  abbrev given : Plan
+  given = plan (start .args .levels .now) (start .args .table .now)
+
+  abbrev adds : ℕ → ℕ → ℤ
+  adds = ofPair given (start .args .f)
+
+  abbrev runs : List ℕ
+  runs = start .args .runs .now
+
+  abbrev run : ℕ
+  run = getD runs (l .loop .k) 0
+
+  sound : (g : ℕ) → List·Memᴰ g runs → Sound given (g ∷ [])
+  sound = sound-run given runs (start .pre .0)
+
+  small : (g : ℕ) → List·Memᴰ g runs → (j : ℕ) → natAbs (adds j g) ≤ highestProduct
+  small g m = pair-small given (start .args .f) g (start .pre .1) (sound g m)
+
+pair-requires : tie.Need-pair-requires Inv-loop μ-loop
+pair-requires c κs =
+    let l = c .before .before in
+    (start l .pre .1, sound l (run l) (getD-mem (runs l) (l .loop .k) 0 (omega arith)))
+
+sub-add-to : tie.Need-sub-add-to Inv-loop μ-loop
+sub-add-to c = omega arith
+
+part-add-to-start : tie.Need-part-add-to-start Inv-loop μ-loop
+part-add-to-start c = omega arith
+
+part-add-to-end : tie.Need-part-add-to-end Inv-loop μ-loop
+part-add-to-end c = omega arith
+
+-- the pair's sums from length 1 on
+longer : (c : tie.After-pair Inv-loop μ-loop) → let l = c .before .before .before in take 24 (drop 1 (c .pair .result)) ≡ byLength (λ j. adds l j (run l))
+longer c = let l = c .before .before .before in ap (λ r. take 24 (drop 1 r)) (c .pair .ensures) ∙ pair-longer (given l) (start l .args .f) (run l)
+
+add-to-requires : tie.Need-add-to-requires Inv-loop μ-loop
+add-to-requires c κs =
+    let d = c .before .before .before in let l = d .before .before .before in (
+      rw (l .loop .inv .2) (totals-row (adds l) (runs l) (l .loop .k) highestProduct (2 ^ 61) (start l .pre .0 .few) (omega arith) (small l)),
+      rw (longer d) (by-length-row (λ j. adds l j (run l)) (2 ^ 61)
+          (λ j. omega (arith, small l (run l) (getD-mem (runs l) (l .loop .k) 0 (omega arith)) j))),
+    )
+
+add-k : tie.Need-add-k Inv-loop μ-loop
+add-k c = omega arith
+
+loop-less : tie.Need-loop-less Inv-loop μ-loop
+loop-less c = omega arith
+
+loop-again : tie.Need-loop-again Inv-loop μ-loop
+loop-again c =
+    let d = c .before .before .before .before in let l = d .before .before .before in (
+      refl,
+      omega arith,
+      c .add-to .ensures ∙ ap₂ added (l .loop .inv .2) (longer d) ∙ totals-next (adds l) (runs l) (l .loop .k) 0 (omega arith),
+    )
+
+returns : tie.Need-returns Inv-loop μ-loop
+returns c =
+    let l = c .before in
+    let e : l .loop .k ≡ length (runs l) = omega arith in
+    l .loop .inv .2 ∙ ap (totals (adds l)) (ap (λ k. take k (runs l)) e ∙ take-length (runs l)) ∙ row-totals (given l) (runs l) (start l .args .f)
+
+pub row-spec : {M : Type 1} → statement M
+row-spec =
+    tie.close
+    (tie.spec
+    Inv-loop
+    μ-loop
+    loop-holds
+    mul-pair
+    shared-slice-read-pair
+    pair-requires
+    sub-add-to
+    part-add-to-start
+    part-add-to-end
+    add-to-requires
+    add-k
+    loop-less
+    loop-again
+    returns)

@@ -1,0 +1,66 @@
+-- Document 01, "Words": what the library and the planner answer, of the runs rs of a plan p.
+-- A call begins with the checks of the plan, or of a held plan: `start` puts them before its own.
+use mathlib.Core.Bool.{cond}
+use mathlib.Core.List.{List, [], _∷_, map}
+use Prim.Native.Nat.{ℕ, _+_}
+use lib.IntN.{ℤ, pos, negℤ}
+use lib.ListN.{replicate}
+use Rattle.exact.specs.Lists.{from, holds}
+use Rattle.rules.specs.Plan.{Plan, columns, level, entry, everyColumn, everyRun, mostColumns, mostRuns}
+use Rattle.rules.specs.Refusals.{Check, refusal, refuses, unless, ofPlan, badLength, levelChecks}
+use Rattle.words.specs.Words.{word, pairSum, rowSum, diagonal}
+use Rattle.words.specs.declared.Sums.{Sums}
+use Rattle.words.specs.declared.WordsAnswer.{WordsAnswer}
+use Rattle.words.specs.declared.WordAnswer.{WordAnswer}
+use Rattle.words.specs.declared.RowSumsAnswer.{RowSumsAnswer}
+use Rattle.words.specs.declared.DiagonalAnswer.{DiagonalAnswer}
+
+-- a number for each word length, 1 to 24. A length above m has no sets of columns, so that its sums are zero
+abbrev pub byLength : (ℕ → ℤ) → List ℤ
+byLength f = map f (from 1 mostColumns)
+
+abbrev pub zeros : List ℤ
+zeros = replicate mostColumns (pos 0)
+
+-- what the pair f, g of runs adds to the words, from length 0 on
+unfoldable pub pairList : Plan → ℕ → ℕ → List ℤ
+pairList p f g = map (λ j. pairSum (level p) (entry p) (everyColumn p) j f g) (from 0 (mostColumns + 1))
+
+module _ (p : Plan) (rs : List ℕ) where
+  -- W_1, W_2, ..
+  unfoldable pub wordList : List ℤ
+  wordList = byLength (word (level p) (entry p) rs (everyColumn p))
+
+  -- the row sums of run f
+  unfoldable pub rowList : ℕ → List ℤ
+  rowList f = byLength (λ j. rowSum (level p) (entry p) rs (everyColumn p) j f)
+
+  -- every run's row sums, by run number; struck runs, and places without a run, hold zero
+  unfoldable pub rowsByRun : List Sums
+  rowsByRun = map (λ f. record { sums = cond (holds f rs) (rowList f) zeros }) (from 0 mostRuns)
+
+  unfoldable pub wordsAnswer : (List Check → List Check) → WordsAnswer
+  wordsAnswer start = let r = refusal (start []) in record { refused = r; words = unless r zeros wordList }
+
+  unfoldable pub wordAnswer : (List Check → List Check) → ℕ → WordAnswer
+  wordAnswer start j =
+      let r = refusal (start (badLength (columns p) j ∷ [])) in
+      record { refused = r; word = unless r (pos 0) (word (level p) (entry p) rs (everyColumn p) j) }
+
+  unfoldable pub rowSumsAnswer : (List Check → List Check) → RowSumsAnswer
+  rowSumsAnswer start =
+      let r = refusal (start []) in
+      record { refused = r; rows = unless r (replicate mostRuns (record { sums = zeros })) rowsByRun }
+
+-- E_1, E_2, ..
+unfoldable pub diagonalList : Plan → List ℤ
+diagonalList p = byLength (diagonal (level p) (everyColumn p))
+
+-- of levels alone
+unfoldable pub diagonalAnswer : Plan → DiagonalAnswer
+diagonalAnswer p = let r = refusal (levelChecks p) in record { refused = r; sums = unless r zeros (diagonalList p) }
+
+-- what the laboratory's planner gets: the word, or the refusal number negated
+unfoldable pub plannerWord : Plan → ℕ → ℤ
+plannerWord p j =
+    let a = wordAnswer p (everyRun p) (ofPlan p) j in cond (refuses (a .refused)) (negℤ (pos (a .refused .number))) (a .word)

@@ -1,0 +1,28 @@
+-- Rows of sums by word length: what the routines over pairs of runs are given, and what a step makes of them.
+use mathlib.Core.Path.{_≡_}
+use mathlib.Core.List.{List, _∷_, map}
+use Prim.Native.Nat.{ℕ, _+_, _≤_, _<_}
+use lib.ListN.{length, getD}
+use lib.IntN.{ℤ, pos, natAbs, _+ℤ_, _*ℤ_}
+use Rattle.exact.specs.Lists.{from}
+use Rattle.rules.specs.Plan.{mostColumns, highestProduct}
+
+-- a row with a number for each word length, each at most b in size
+pub record Row (b : ℕ) (row : List ℤ) : Type 0 where
+  pub long : length row ≡ mostColumns
+  pub small : (k : ℕ) → natAbs (getD row k (pos 0)) ≤ b
+
+-- a row that starts at length 0, of sums over fewer columns than there may be: zero at each length above their number
+pub record OfColumns (columns : ℕ) (row : List ℤ) : Type 0 where
+  pub few : columns < mostColumns
+  pub long : length row ≡ mostColumns + 1
+  pub small : (k : ℕ) → natAbs (getD row k (pos 0)) ≤ highestProduct
+  pub above : (k : ℕ) → columns < k → getD row k (pos 0) ≡ pos 0
+
+-- the row with one column more, of score x: each sum gains x times the sum of one length less
+unfoldable pub withColumn : ℤ → List ℤ → List ℤ
+withColumn x row = getD row 0 (pos 0) ∷ map (λ k. getD row (k + 1) (pos 0) +ℤ x *ℤ getD row k (pos 0)) (from 0 mostColumns)
+
+-- two rows added, length by length
+unfoldable pub added : List ℤ → List ℤ → List ℤ
+added row more = map (λ k. getD row k (pos 0) +ℤ getD more k (pos 0)) (from 0 mostColumns)

@@ -1,0 +1,135 @@
+// For our own crates: the words of some runs of a plan, each named by its number. The runs that stand are such a list.
+use crate::Sums;
+use exact::signed;
+ghost use mathlib.Core.Path.{_≡_};
+ghost use mathlib.Core.List.{[], _∷_};
+ghost use Prim.Native.Nat.{_≤_, _^_};
+ghost use lib.IntN.{natAbs};
+ghost use Rattle.rules.specs.Plan.{plan, everyRun, highestLevel};
+ghost use Rattle.plan.specs.Good.{Good, Sound};
+ghost use Rattle.words.specs.Words.{score};
+ghost use Rattle.words.specs.Given.{Row, OfColumns, withColumn, added};
+ghost use Rattle.words.specs.Answers.{pairList, rowList, rowsByRun, wordList, diagonalList};
+
+// The score of a column: its level less one where two entries agree, and -1 where they differ.
+pub fn score(level: u8, a: u8, b: u8) -> i64
+    ensures { λ r. ⌜ r ≡ score level a b ⌝ }
+{
+    if a == b {
+        signed::sub(signed::of_byte(level), 1)
+    } else {
+        -1
+    }
+}
+
+// One column more. `columns` are in the sums so far, so that the sums of greater lengths are zero and stay so.
+pub(crate) fn extend(sums: &mut [i64; 25], score: i64, columns: usize)
+    requires { ⌜ OfColumns columns (now sums) × (natAbs score ≤ highestLevel) ⌝ }
+    ensures { λ _. ⌜ now (sums .exit) ≡ withColumn score (now (sums .entry)) ⌝ }
+{
+    let mut j = columns + 1;
+    while 0 < j {
+        j -= 1;
+        sums[j + 1] = signed::add(sums[j + 1], signed::mul(score, sums[j]));
+    }
+}
+
+// The sums of a pair, or of a row, go into those of a row or of all.
+pub(crate) fn add_to(total: &mut [i64; 24], more: &[i64])
+    requires { ⌜ Row (2 ^ 61) (now total) × Row (2 ^ 61) (now more) ⌝ }
+    ensures { λ _. ⌜ now (total .exit) ≡ added (now (total .entry)) (now (more .entry)) ⌝ }
+{
+    for j in 0..24 {
+        total[j] = signed::add(total[j], more[j]);
+    }
+}
+
+// What a pair of runs adds to the words: the sums over all sets of columns, from length 0 on, a column at a time.
+pub fn pair(levels: &[u8], table: &[u8], f: usize, g: usize) -> [i64; 25]
+    requires { ⌜ Sound (plan (now levels) (now table)) (f ∷ []) × Sound (plan (now levels) (now table)) (g ∷ []) ⌝ }
+    ensures { λ r. ⌜ r ≡ pairList (plan (now (levels .entry)) (now (table .entry))) f g ⌝ }
+{
+    let m = levels.len();
+    let mut sums = [0i64; 25];
+    sums[0] = 1;
+    for i in 0..m {
+        let x = score(levels[i], table[f * m + i], table[g * m + i]);
+        extend(&mut sums, x, i);
+    }
+    sums
+}
+
+// The row sums of run f over the runs given, of which f need not be one.
+pub fn row(levels: &[u8], table: &[u8], runs: &[usize], f: usize) -> Sums
+    requires { ⌜ Sound (plan (now levels) (now table)) (now runs) × Sound (plan (now levels) (now table)) (f ∷ []) ⌝ }
+    ensures { λ r. ⌜ r .sums ≡ rowList (plan (now (levels .entry)) (now (table .entry))) (now (runs .entry)) f ⌝ }
+{
+    let mut total = [0i64; 24];
+    for k in 0..runs.len() {
+        let sums = pair(levels, table, f, runs[k]);
+        add_to(&mut total, &sums[1..]);
+    }
+    Sums { sums: total }
+}
+
+// The row sums of every run, by its number.
+pub fn rows(levels: &[u8], table: &[u8], runs: &[usize]) -> [Sums; 256]
+    requires { ⌜ Sound (plan (now levels) (now table)) (now runs) ⌝ }
+    ensures { λ r. ⌜ r ≡ rowsByRun (plan (now (levels .entry)) (now (table .entry))) (now (runs .entry)) ⌝ }
+{
+    let mut rows = [Sums { sums: [0; 24] }; 256];
+    for k in 0..runs.len() {
+        let f = runs[k];
+        rows[f] = row(levels, table, runs, f);
+    }
+    rows
+}
+
+// The words: the row sums of all runs, added up.
+pub fn words(levels: &[u8], table: &[u8], runs: &[usize]) -> [i64; 24]
+    requires { ⌜ Sound (plan (now levels) (now table)) (now runs) ⌝ }
+    ensures { λ r. ⌜ r ≡ wordList (plan (now (levels .entry)) (now (table .entry))) (now (runs .entry)) ⌝ }
+{
+    let mut total = [0i64; 24];
+    for k in 0..runs.len() {
+        let v = row(levels, table, runs, runs[k]);
+        let sums = v.sums;
+        add_to(&mut total, &sums);
+    }
+    total
+}
+
+// The words of an accepted plan, and its row sums: of every run.
+pub fn words_of_plan(levels: &[u8], table: &[u8]) -> [i64; 24]
+    requires { ⌜ Good (plan (now levels) (now table)) ⌝ }
+    ensures { λ r. ⌜ (let p = plan (now (levels .entry)) (now (table .entry)) in r ≡ wordList p (everyRun p)) ⌝ }
+{
+    let n = table.len() / levels.len();
+    let runs = plan::inner::every_run(n);
+    words(levels, table, &runs[..n])
+}
+
+pub fn rows_of_plan(levels: &[u8], table: &[u8]) -> [Sums; 256]
+    requires { ⌜ Good (plan (now levels) (now table)) ⌝ }
+    ensures { λ r. ⌜ (let p = plan (now (levels .entry)) (now (table .entry)) in r ≡ rowsByRun p (everyRun p)) ⌝ }
+{
+    let n = table.len() / levels.len();
+    let runs = plan::inner::every_run(n);
+    rows(levels, table, &runs[..n])
+}
+
+// E_j, for each length j: what a pair of a run with itself adds, since there every column agrees.
+pub fn diagonal(levels: &[u8]) -> [i64; 24]
+    requires { ⌜ Sound (plan (now levels) []) [] ⌝ }
+    ensures { λ r. ⌜ r ≡ diagonalList (plan (now (levels .entry)) []) ⌝ }
+{
+    let mut sums = [0i64; 25];
+    sums[0] = 1;
+    for i in 0..levels.len() {
+        let x = score(levels[i], 0, 0);
+        extend(&mut sums, x, i);
+    }
+    let mut longer = [0i64; 24];
+    add_to(&mut longer, &sums[1..]);
+    longer
+}
