@@ -1,0 +1,34 @@
+-- Document 01, "Worked figures": the starred strengths, and a level that never occurs, in a single statement over their table.
+use mathlib.Core.Path.{_≡_, refl}
+use mathlib.Core.List.{List, [], _∷_, map}
+use Prim.Native.Nat.{ℕ}
+use Rattle.rules.specs.Plan.{Plan, plan, level, entry, everyRun, everyColumn}
+use Rattle.counts.specs.Counts.{even, balanced, strength}
+
+record Figure : Type 0 where
+  asked : Plan
+  strong : ℕ
+
+abbrev is : List ℕ → List ℕ → ℕ → Figure
+is levels table t = record { asked = plan levels table; strong = t }
+
+figures : List Figure
+figures =
+    -- runs 000 011 101 110
+    is (2 ∷ 2 ∷ 2 ∷ []) (0 ∷ 0 ∷ 0 ∷ 0 ∷ 1 ∷ 1 ∷ 1 ∷ 0 ∷ 1 ∷ 1 ∷ 1 ∷ 0 ∷ []) 2
+    -- all six runs
+    ∷ is (3 ∷ 2 ∷ []) (0 ∷ 0 ∷ 0 ∷ 1 ∷ 1 ∷ 0 ∷ 1 ∷ 1 ∷ 2 ∷ 0 ∷ 2 ∷ 1 ∷ []) 2
+    -- runs 00 01 12
+    ∷ is (2 ∷ 3 ∷ []) (0 ∷ 0 ∷ 0 ∷ 1 ∷ 1 ∷ 2 ∷ []) 0
+    -- runs 0 1 of one column: level 2 never occurs and counts
+    ∷ is (3 ∷ []) (0 ∷ 1 ∷ []) 0
+    ∷ is (2 ∷ []) (0 ∷ 1 ∷ []) 1
+    ∷ []
+
+found : Figure → ℕ
+unfolding strength balanced even
+found f = let p = f .asked in strength (level p) (entry p) (everyRun p) (everyColumn p)
+
+as-the-paper-says : map found figures ≡ map (λ f. f .strong) figures
+unfolding found figures
+as-the-paper-says = refl

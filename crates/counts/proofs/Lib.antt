@@ -1,0 +1,11 @@
+pub mod Numbered
+pub mod Counted
+pub mod Balance
+pub mod Turns
+pub mod Figures
+pub mod Even
+pub mod Shown
+pub mod Wordless
+pub mod Ceiling
+pub mod Agreeing
+pub mod WordCounts

@@ -1,0 +1,2 @@
+pub mod Projections
+pub mod Given
