@@ -1,0 +1,4 @@
+pub mod Lawful
+pub mod Turns
+pub mod OfPlan
+pub mod Answered

@@ -1,0 +1,59 @@
+-- Document 01, "Words": the comparison of two plans (generalized minimum aberration).
+use mathlib.Core.Bool.{cond}
+use mathlib.Core.List.{List, [], _∷_, map}
+use Prim.Native.Nat.{ℕ, _*_}
+use lib.Dec.{eqb}
+use lib.IntN.{ℤ, natAbs}
+use lib.ListN.{length}
+use Rattle.exact.specs.Lists.{from}
+use Rattle.exact.specs.Fractions.{then, smallerFraction}
+use Rattle.exact.specs.declared.fractions.Fraction.{Fraction}
+use Rattle.exact.specs.declared.fractions.Verdict.{Verdict}
+use Rattle.exact.specs.declared.fractions.Verdict.the-variants.{Equal}
+use Rattle.rules.specs.Plan.{Plan, columns, level, entry, everyColumn, everyRun}
+use Rattle.rules.specs.Refusals.{Check, refusal, refuses, ofPlan}
+use Rattle.words.specs.Words.{word}
+use Rattle.compare.specs.declared.Comparison.{Comparison}
+use Rattle.compare.specs.declared.Comparison.the-variants.{Compared, NotComparable, Refused}
+
+-- the word A_j = W_j / n² of n runs (W_j is never negative)
+abbrev pub over : ℕ → ℤ → Fraction
+over n w = record { num = natAbs w; den = n * n }
+
+module _ {R C : Type 0} (level : C → ℕ) (entry : R → C → ℕ) (rs : List R) (cols : List C) where
+  unfoldable pub A : ℕ → Fraction
+  A j = over (length rs) (word level entry rs cols j)
+
+  -- A_1 to A_m
+  unfoldable pub pattern : List Fraction
+  pattern = map A (from 1 (length cols))
+
+-- the smaller A_j at the first length where they differ is better; equal patterns are equal
+unfoldable pub comparePatterns : List Fraction → List Fraction → Verdict
+comparePatterns [] ys = Equal
+comparePatterns (x ∷ xs) [] = Equal
+comparePatterns (x ∷ xs) (y ∷ ys) = then (smallerFraction x y) (comparePatterns xs ys)
+
+-- the pattern of the runs rs of plan p
+abbrev pub patternOf : Plan → List ℕ → List Fraction
+patternOf p rs = pattern (level p) (entry p) rs (everyColumn p)
+
+-- two plans whole
+abbrev pub compareWhole : Plan → Plan → Verdict
+compareWhole p q = comparePatterns (patternOf p (everyRun p)) (patternOf q (everyRun q))
+
+-- the runs rs of plan p against the runs ss of plan q, both checked
+abbrev pub verdictOf : Plan → List ℕ → Plan → List ℕ → Comparison
+verdictOf p rs q ss =
+    cond (eqb (columns p) (columns q)) (Compared (comparePatterns (patternOf p rs) (patternOf q ss))) NotComparable
+
+-- the first is checked entirely, then the second; a refusal says which, 1 or 2
+unfoldable pub compareAnswer : (List Check → List Check) → Plan → List ℕ → (List Check → List Check) → Plan → List ℕ → Comparison
+compareAnswer start p rs startOther q ss =
+    let r = refusal (start []) in
+    let s = refusal (startOther []) in
+    cond (refuses r) (Refused 1 r) (cond (refuses s) (Refused 2 s) (verdictOf p rs q ss))
+
+-- two plans, given as levels and table
+abbrev pub comparePlans : Plan → Plan → Comparison
+comparePlans p q = compareAnswer (ofPlan p) p (everyRun p) (ofPlan q) q (everyRun q)

@@ -1,0 +1,75 @@
+-- Document 01, "Worked figures" and the listing: a table of plans with the paper's answers, and one statement over it.
+use mathlib.Core.Path.{_≡_, refl}
+use mathlib.Core.List.{List, [], _∷_, map}
+use Prim.Native.Nat.{ℕ}
+use Rattle.exact.specs.Fractions.{gcd, reduced, smallerFraction}
+use Rattle.rules.specs.Plan.{Plan, plan, everyRun}
+use Rattle.rules.specs.Refusals.{ofPlan, firstBadLevel, firstBadEntry}
+use Rattle.words.specs.Words.{score, wordOf, word}
+use Rattle.projections.specs.Projections.{relativeOf}
+use Rattle.resolution.specs.Resolution.{greatest, rootOf, resolution, largestRatio, resolutionAnswer, generalizedAnswer}
+use Rattle.resolution.specs.Charts.{columnRatio, figureAnswer}
+use Rattle.resolution.specs.declared.Figure.{Figure}
+use Rattle.resolution.specs.declared.Figure.the-variants.{Ratio, Clear}
+
+-- GR of a plan, R alone, and a column's figure
+data Question : Type 0 where
+  generalized : Plan → Question
+  resolved : Plan → Question
+  column : Plan → ℕ → Question
+
+abbrev isClear : Figure → ℕ
+isClear (Ratio x) = 0
+isClear Clear = 1
+
+-- the answer, as numbers in a row: the refusal's number; then R, the ratio, GR in thousandths; or R; or 1 for clear
+ask : Question → List ℕ
+unfolding firstBadLevel firstBadEntry score wordOf word gcd reduced smallerFraction relativeOf greatest rootOf resolution largestRatio
+    resolutionAnswer generalizedAnswer columnRatio figureAnswer
+ask (generalized p) =
+    let a = generalizedAnswer p (everyRun p) (ofPlan p) in
+    a .refused .number ∷ a .resolution ∷ a .ratio .num ∷ a .ratio .den ∷ a .thousandths ∷ []
+ask (resolved p) = let a = resolutionAnswer p (everyRun p) (ofPlan p) in a .refused .number ∷ a .resolution ∷ []
+ask (column p i) = let a = figureAnswer p (everyRun p) (ofPlan p) i in a .refused .number ∷ isClear (a .figure) ∷ []
+
+record Row : Type 0 where
+  question : Question
+  answer : List ℕ
+
+abbrev is : Question → List ℕ → Row
+is q a = record { question = q; answer = a }
+
+-- levels 2,2,2, runs 000 011 101 110
+abbrev half : Plan
+half = plan (2 ∷ 2 ∷ 2 ∷ []) (0 ∷ 0 ∷ 0 ∷ 0 ∷ 1 ∷ 1 ∷ 1 ∷ 0 ∷ 1 ∷ 1 ∷ 1 ∷ 0 ∷ [])
+
+-- levels 3,2, all six runs, and one run
+abbrev full : Plan
+full = plan (3 ∷ 2 ∷ []) (0 ∷ 0 ∷ 0 ∷ 1 ∷ 1 ∷ 0 ∷ 1 ∷ 1 ∷ 2 ∷ 0 ∷ 2 ∷ 1 ∷ [])
+
+abbrev one : Plan
+one = plan (3 ∷ 2 ∷ []) (0 ∷ 0 ∷ [])
+
+-- the listing's: levels 2,3, runs 00 01 12
+abbrev listed : Plan
+listed = plan (2 ∷ 3 ∷ []) (0 ∷ 0 ∷ 0 ∷ 1 ∷ 1 ∷ 2 ∷ [])
+
+abbrev figures : List Row
+figures =
+    is (generalized half) (0 ∷ 3 ∷ 1 ∷ 1 ∷ 3000 ∷ [])
+    ∷ is (generalized full) (11 ∷ 0 ∷ 0 ∷ 0 ∷ 0 ∷ [])
+    ∷ is (resolved full) (11 ∷ 0 ∷ [])
+    ∷ is (generalized one) (0 ∷ 1 ∷ 1 ∷ 1 ∷ 1000 ∷ [])
+    ∷ is (resolved one) (0 ∷ 1 ∷ [])
+    ∷ is (generalized listed) (0 ∷ 1 ∷ 1 ∷ 9 ∷ 1666 ∷ [])
+    -- not of the paper: column 0 of the listing's plan has the ratio 1/9, column 1 is clear, and there is no column 2; 8 ahead of 11
+    ∷ is (column listed 0) (0 ∷ 0 ∷ [])
+    ∷ is (column listed 1) (0 ∷ 1 ∷ [])
+    ∷ is (column listed 2) (8 ∷ 1 ∷ [])
+    ∷ is (column full 2) (8 ∷ 1 ∷ [])
+    ∷ is (column full 1) (11 ∷ 1 ∷ [])
+    ∷ []
+
+ratio-figures : map (λ c. ask (c .question)) figures ≡ map (λ c. c .answer) figures
+unfolding ask
+ratio-figures = refl

@@ -1,0 +1,109 @@
+-- The greatest fraction is one of them, or 0/1, and none of them is greater. One fraction more is one comparison.
+use mathlib.Core.Path.{_≡_, refl, sym, _∙_, subst}
+use mathlib.Core.Bool.{Bool, true, false, cond}
+use mathlib.Core.Logic.{_⊎_, inl, inr}
+use mathlib.Core.List.{List, [], _∷_, _++_, List·Memᴰ, List·Memᴰ·head, List·Memᴰ·not-nil}
+use mathlib.Core.List.{List·Memᴰ·append-cases, List·Memᴰ·eq-of-singleton, Memᴰ·append-left, Memᴰ·append-right}
+use Prim.Native.Nat.{_<_}
+use native.Mathlib.Omega.{arith}
+use Rattle.exact.specs.Fractions.{smallerFraction, isBetter}
+use Rattle.exact.specs.declared.fractions.Fraction.{Fraction}
+use Rattle.exact.specs.declared.fractions.Verdict.{Verdict}
+use Rattle.exact.specs.declared.fractions.Verdict.the-variants.{Better, Worse, Equal}
+use Rattle.exact.proofs.Lists.{grown}
+use Rattle.exact.proofs.Lawful.{fractions}
+use Rattle.resolution.specs.Resolution.{greater, greatestFrom, zeroFraction, greatest}
+
+from-snoc : (x : Fraction) (ys : List Fraction) (y : Fraction) → greatestFrom x (ys ++ y ∷ []) ≡ greater (greatestFrom x ys) y
+from-snoc x [] y = refl
+from-snoc x (z ∷ ys) y = from-snoc (greater x z) ys y
+
+pub greatest-none : zeroFraction ≡ greatest []
+unfolding greatest
+greatest-none = refl
+
+-- a loop's turn
+pub greatest-snoc : (xs : List Fraction) (x : Fraction) → greatest (xs ++ x ∷ []) ≡ greater (greatest xs) x
+unfolding greatest
+greatest-snoc xs x = from-snoc zeroFraction xs x
+
+-- what holds of both fractions holds of the greater
+pub greater-of : (P : Fraction → Type 0) (x y : Fraction) → P x → P y → P (greater x y)
+greater-of P x y p q = go (isBetter (smallerFraction x y))
+  where
+    go : (b : Bool) → P (cond b y x)
+    go true = q
+    go false = p
+
+-- g is one of the fractions, or 0/1, and none of them is greater
+pub record IsGreatest (xs : List Fraction) (g : Fraction) : Type 0 where
+  pub among : (g ≡ zeroFraction) ⊎ List·Memᴰ g xs
+  pub none-above : (x : Fraction) → List·Memᴰ x xs → ¬ (smallerFraction g x ≡ Better)
+
+abbrev EachProper : List Fraction → Type 0
+EachProper xs = (x : Fraction) → List·Memᴰ x xs → 0 < x .den
+
+module _ (xs : List Fraction) (y g : Fraction) (proper : EachProper (xs ++ y ∷ [])) (G : IsGreatest xs g) where
+  others : EachProper xs
+  others x m = proper x (Memᴰ·append-left (y ∷ []) m)
+
+  last : 0 < y .den
+  last = proper y (Memᴰ·append-right xs (List·Memᴰ·head refl))
+
+  own : 0 < g .den
+  own = go (G .among)
+    where
+      go : (g ≡ zeroFraction) ⊎ List·Memᴰ g xs → 0 < g .den
+      go (inl e) = rw e (omega arith)
+      go (inr m) = others g m
+
+  kept : ¬ (smallerFraction g y ≡ Better) → IsGreatest (xs ++ y ∷ []) g
+  kept n = record { among = go (G .among); none-above = λ x m. above x (List·Memᴰ·append-cases xs m) }
+    where
+      go : (g ≡ zeroFraction) ⊎ List·Memᴰ g xs → (g ≡ zeroFraction) ⊎ List·Memᴰ g (xs ++ y ∷ [])
+      go (inl e) = inl e
+      go (inr m) = inr (Memᴰ·append-left (y ∷ []) m)
+
+      above : (x : Fraction) → List·Memᴰ x xs ⊎ List·Memᴰ x (y ∷ []) → ¬ (smallerFraction g x ≡ Better)
+      above x (inl m) = G .none-above x m
+      above x (inr m) = subst (λ z. ¬ (smallerFraction g z ≡ Better)) (sym (List·Memᴰ·eq-of-singleton m)) n
+
+  taken : smallerFraction g y ≡ Better → IsGreatest (xs ++ y ∷ []) y
+  taken e = record {
+    among = inr (Memᴰ·append-right xs (List·Memᴰ·head refl));
+    none-above = λ x m. above x (List·Memᴰ·append-cases xs m);
+  }
+    where
+      unlike : ¬ (Equal ≡ Better)
+      unlike q = subst (λ v. cond (isBetter v) ⊥ (Unit {0})) q tt
+
+      above : (x : Fraction) → List·Memᴰ x xs ⊎ List·Memᴰ x (y ∷ []) → ¬ (smallerFraction y x ≡ Better)
+      above x (inl m) d = G .none-above x m (fractions .trans g y x own last (others x m) e d)
+      above x (inr m) d =
+          unlike (sym (fractions .same y last) ∙ subst (λ z. smallerFraction y z ≡ Better) (List·Memᴰ·eq-of-singleton m) d)
+
+  next : IsGreatest (xs ++ y ∷ []) (greater g y)
+  next = go (smallerFraction g y) refl
+    where
+      unlike : (v : Verdict) → isBetter v ≡ false → ¬ (v ≡ Better)
+      unlike v e q = subst (λ b. cond b (Unit {0}) ⊥) (subst (λ v. isBetter v ≡ false) q e) tt
+
+      go : (v : Verdict) → smallerFraction g y ≡ v → IsGreatest (xs ++ y ∷ []) (cond (isBetter v) y g)
+      go Better e = taken e
+      go Worse e = kept (λ q. unlike Worse refl (sym e ∙ q))
+      go Equal e = kept (λ q. unlike Equal refl (sym e ∙ q))
+
+pub greatest-is : (xs : List Fraction) → EachProper xs → IsGreatest xs (greatest xs)
+greatest-is =
+    grown (λ xs. EachProper xs → IsGreatest xs (greatest xs))
+    (λ h. record { among = inl (sym greatest-none); none-above = λ x m. absurd (List·Memᴰ·not-nil m) })
+    (λ xs x ih h. rw (greatest-snoc xs x) (next xs x (greatest xs) h (ih (λ y m. h y (Memᴰ·append-left (x ∷ []) m)))))
+
+-- what holds of 0/1 and of each holds of the greatest
+pub greatest-of : (P : Fraction → Type 0) (xs : List Fraction) → P zeroFraction → ((x : Fraction) → List·Memᴰ x xs → P x) → P (greatest xs)
+greatest-of P xs z =
+    grown (λ xs. ((x : Fraction) → List·Memᴰ x xs → P x) → P (greatest xs)) (λ h. subst P greatest-none z)
+    (λ xs x ih h.
+    rw (greatest-snoc xs x)
+    (greater-of P (greatest xs) x (ih (λ y m. h y (Memᴰ·append-left (x ∷ []) m))) (h x (Memᴰ·append-right xs (List·Memᴰ·head refl)))))
+    xs

@@ -1,0 +1,9 @@
+pub mod Greatest
+pub mod Searching
+pub mod Root
+pub mod Resolved
+pub mod Walk
+pub mod Rated
+pub mod Answered
+pub mod Planned
+pub mod Figures

@@ -1,0 +1,141 @@
+-- A rating of some runs by the checks 11 and 12, what the routine finds of it, and that its numbers are small.
+use mathlib.Core.Path.{_≡_, refl, sym, _∙_, ap, subst}
+use mathlib.Core.List.{List}
+use Prim.Native.Nat.{ℕ, _+_, _*_, _≤_, _<_, _^_}
+use native.Mathlib.Decide.{decLe}
+use native.Mathlib.Omega.{arith}
+use borrow.Author.Tests.{lt-ltb, le-ltb, le-leb, lt-leb}
+use lib.IntN.{ℤ, natAbs}
+use lib.ListN.{length}
+use Rattle.exact.specs.Lists.{keep, holds}
+use Rattle.exact.proofs.Numbers.{length-from, mul-below}
+use Rattle.rules.specs.Plan.{Plan, columns, level, entry, everyColumn, mostColumns, mostRuns}
+use Rattle.rules.specs.Refusals.{plain, accepted}
+use Rattle.rules.specs.declared.Refusal.{Refusal}
+use Rattle.sets.specs.Sets.{setsOf}
+use Rattle.words.specs.Words.{word}
+use Rattle.words.specs.Answers.{wordList}
+use Rattle.words.proofs.OfPlan.{word-small, word-none}
+use Rattle.words.proofs.Answered.{word-at}
+use Rattle.projections.specs.Given.{Tabled}
+use Rattle.resolution.specs.Resolution.{resolutionIn, ratioIn, largestRatio}
+use Rattle.resolution.specs.Charts.{columnRatio}
+use Rattle.resolution.specs.Given.{Measured, wordIn, firstAbove, ratiosOf, refusing, measures, ratingOf, Small}
+use Rattle.resolution.proofs.Resolved.{resolution-is, resolution-words}
+use Rattle.resolution.proofs.Walk.{keep-mem, ratios-small}
+use Rattle.resolution.specs.declared.inner.Rating.{Rating}
+use Rattle.resolution.specs.declared.inner.Ratios.{Ratios}
+
+-- ---- the words of a list, whatever the length
+
+word-read : (p : Plan) (rs : List ℕ) → columns p ≤ mostColumns → (j : ℕ) → 1 ≤ j →
+    wordIn (wordList p rs) j ≡ word (level p) (entry p) rs (everyColumn p) j
+word-read p rs h j l = go (decLe j mostColumns)
+  where
+    go : Dec (j ≤ mostColumns) → wordIn (wordList p rs) j ≡ word (level p) (entry p) rs (everyColumn p) j
+    go (yes k) = rw (le-leb j mostColumns k) (word-at p rs j l k)
+    go (no k) = rw (lt-leb j mostColumns (omega arith)) (sym (word-none p rs j (omega arith)))
+
+pub refusing-small : (r : Refusal) → Small (refusing r)
+refusing-small r = record {
+  length = omega arith;
+  at-most-one = omega arith;
+  short = omega arith;
+  held-num = omega arith;
+  held-den = omega arith;
+  word = omega arith;
+  next = omega arith;
+  pairs = omega arith;
+}
+
+-- ---- a rating by the checks 11 and 12
+
+module _ (p : Plan) (rs : List ℕ) (i : ℕ) where
+  abbrev pub own : Rating
+  own = ratingOf p rs (λ checks. checks) i
+
+  pub rating-none : columns p < resolutionIn p rs → refusing (plain 11) ≡ own
+  unfolding ratingOf
+  rating-none h = rw (length-from 0 (columns p), lt-ltb (columns p) (resolutionIn p rs) h)
+
+  rating-above : resolutionIn p rs ≤ columns p → ratioIn p rs .den < ratioIn p rs .num → refusing (plain 12) ≡ own
+  unfolding ratingOf
+  rating-above h l = rw (length-from 0 (columns p), le-ltb (columns p) (resolutionIn p rs) h, lt-ltb (ratioIn p rs .den) (ratioIn p rs .num) l)
+
+  rating-is : resolutionIn p rs ≤ columns p → ratioIn p rs .num ≤ ratioIn p rs .den → measures p rs i accepted ≡ own
+  unfolding ratingOf
+  rating-is h l = rw (length-from 0 (columns p), le-ltb (columns p) (resolutionIn p rs) h, le-ltb (ratioIn p rs .den) (ratioIn p rs .num) l)
+
+  -- the ratios of the sets of R columns
+  ratios-are : ratiosOf p rs (setsOf (columns p) (resolutionIn p rs)) i ≡ record { largest = ratioIn p rs; held = columnRatio p rs i }
+  unfolding ratiosOf largestRatio columnRatio
+  ratios-are = refl
+
+-- ---- what the routine finds: r, the ratios q, the words w and v
+
+module _ (p : Plan) (rs : List ℕ) (words : List ℤ) (M : Measured p rs words) where
+  high : columns p ≤ mostColumns
+  high = M .tabled .sound .columns-high
+
+  pub found : (r : ℕ) → r ≡ firstAbove words (columns p) → r ≡ resolutionIn p rs
+  found r e = e ∙ ap (λ l. firstAbove l (columns p)) (M .of-runs) ∙ resolution-words p rs high
+
+  pub from-one : (r : ℕ) → r ≡ firstAbove words (columns p) → 1 ≤ r
+  from-one r e = rw (found r e) (resolution-is (level p) (entry p) rs (everyColumn p) .low)
+
+  pub read : (j : ℕ) (w : ℤ) → 1 ≤ j → w ≡ wordIn words j → w ≡ word (level p) (entry p) rs (everyColumn p) j
+  read j w h e = e ∙ ap (λ l. wordIn l j) (M .of-runs) ∙ word-read p rs high j h
+
+module _ (p : Plan) (rs : List ℕ) (i r : ℕ) (q : Ratios) (e : r ≡ resolutionIn p rs) (d : q ≡ ratiosOf p rs (setsOf (columns p) r) i) where
+  ratios : q ≡ record { largest = ratioIn p rs; held = columnRatio p rs i }
+  ratios = d ∙ ap (λ r. ratiosOf p rs (setsOf (columns p) r) i) e ∙ ratios-are p rs i
+
+  pub found-above : r ≤ columns p → q .largest .den < q .largest .num → refusing (plain 12) ≡ own p rs i
+  found-above h l = rating-above p rs i (rw e at h) (rw ratios at l)
+
+  pub found-is : (w v : ℤ) → r ≤ columns p → q .largest .num ≤ q .largest .den →
+      w ≡ word (level p) (entry p) rs (everyColumn p) r → v ≡ word (level p) (entry p) rs (everyColumn p) (r + 1) →
+      record {
+        refused = accepted;
+        columns = columns p;
+        pairs = length rs * length rs;
+        resolution = r;
+        word = w;
+        next = v;
+        largest = q .largest;
+        held = q .held;
+      } ≡ own p rs i
+  found-is w v h l f g = rw (f, g, ratios, e) (rating-is p rs i (rw e at h) (rw ratios at l))
+
+-- ---- its numbers are small
+
+module _ (p : Plan) (rs : List ℕ) (i : ℕ) (G : Tabled p rs) where
+  low : 1 ≤ resolutionIn p rs
+  low = resolution-is (level p) (entry p) rs (everyColumn p) .low
+
+  word-exact : (j : ℕ) → natAbs (word (level p) (entry p) rs (everyColumn p) j) ≤ 2 ^ 53
+  word-exact j = omega (arith, word-small p rs (G .sound) j)
+
+  measures-small : resolutionIn p rs ≤ columns p → ratioIn p rs .num ≤ ratioIn p rs .den → Small (measures p rs i accepted)
+  unfolding largestRatio columnRatio
+  measures-small h l =
+      let L = ratios-small p rs G (resolutionIn p rs) low (setsOf (columns p) (resolutionIn p rs)) (λ I m. m) in
+      let H = ratios-small p rs G (resolutionIn p rs) low (keep (holds i) (setsOf (columns p) (resolutionIn p rs))) (λ I m. keep-mem (holds i) _ I m) in
+      record {
+        length = omega (arith, G .sound .columns-high);
+        at-most-one = l;
+        short = L .0 .short;
+        held-num = H .1;
+        held-den = omega (arith, H .0 .short);
+        word = word-exact (resolutionIn p rs);
+        next = word-exact (resolutionIn p rs + 1);
+        pairs = omega (arith, mul-below (length rs) (length rs) mostRuns mostRuns (G .sound .few) (G .sound .few));
+      }
+
+  pub rating-small : Small (own p rs i)
+  rating-small = go (decLe (resolutionIn p rs) (columns p)) (decLe (ratioIn p rs .num) (ratioIn p rs .den))
+    where
+      go : Dec (resolutionIn p rs ≤ columns p) → Dec (ratioIn p rs .num ≤ ratioIn p rs .den) → Small (own p rs i)
+      go (no h) q = subst Small (rating-none p rs i (omega arith)) (refusing-small (plain 11))
+      go (yes h) (no l) = subst Small (rating-above p rs i h (omega arith)) (refusing-small (plain 12))
+      go (yes h) (yes l) = subst Small (rating-is p rs i h l) (measures-small h l)

@@ -1,0 +1,52 @@
+-- The resolution is the smallest length from 1 whose word is above zero, and the search over the list of words finds it.
+use mathlib.Core.Path.{_≡_, refl, sym, _∙_, ap}
+use mathlib.Core.Bool.{Bool}
+use mathlib.Core.List.{List}
+use Prim.Native.Nat.{ℕ, zero, suc, _+_, _≤_, _<_}
+use native.Mathlib.Omega.{arith}
+use lib.Dec.{T}
+use lib.IntN.{pos}
+use lib.ListN.{length}
+use lib.Signed.{ltZ}
+use Rattle.exact.specs.Lists.{first}
+use Rattle.exact.proofs.Numbers.{length-from}
+use Rattle.exact.proofs.Searches.{IsFirst, first-is, first-unique}
+use Rattle.rules.specs.Plan.{Plan, columns, level, entry, everyColumn, mostColumns}
+use Rattle.words.specs.Words.{word}
+use Rattle.words.specs.Answers.{wordList}
+use Rattle.words.proofs.Answered.{word-at}
+use Rattle.resolution.specs.Resolution.{resolution, resolutionIn}
+use Rattle.resolution.specs.Given.{isAbove, firstAbove}
+
+module _ {R C : Type 0} (level : C → ℕ) (entry : R → C → ℕ) (rs : List R) (cols : List C) where
+  -- the smallest j from 1 to m with W_j above zero, and m + 1 where there is none
+  pub record IsResolution (r : ℕ) : Type 0 where
+    pub low : 1 ≤ r
+    pub high : r ≤ length cols + 1
+    pub above-zero : r ≤ length cols → T (ltZ (pos 0) (word level entry rs cols r))
+    pub least : (j : ℕ) → 1 ≤ j → j < r → ¬ (T (ltZ (pos 0) (word level entry rs cols j)))
+
+  pub resolution-is : IsResolution (resolution level entry rs cols)
+  unfolding resolution
+  resolution-is =
+      let F = first-is (λ j. ltZ (pos 0) (word level entry rs cols j)) 1 (length cols) in
+      record { low = F .from-a; high = omega (arith, F .within); above-zero = λ h. F .passes (omega arith); least = F .none-before }
+
+  pub resolution-unique : (r s : ℕ) → IsResolution r → IsResolution s → r ≡ s
+  resolution-unique r s I J = first-unique (λ j. ltZ (pos 0) (word level entry rs cols j)) 1 (length cols) r s (is r I) (is s J)
+    where
+      is : (r : ℕ) → IsResolution r → IsFirst (λ j. ltZ (pos 0) (word level entry rs cols j)) 1 (length cols) r
+      is r I = record { from-a = I .low; within = omega (arith, I .high); passes = λ h. I .above-zero (omega arith); none-before = I .least }
+
+-- tests that agree have the same first number
+first-cong : (f g : ℕ → Bool) (a n : ℕ) → ((j : ℕ) → a ≤ j → j < a + n → f j ≡ g j) → first f a n ≡ first g a n
+first-cong f g a zero h = refl
+first-cong f g a (suc n) h = rw (h a (omega arith) (omega arith), first-cong f g (suc a) n (λ j l k. h j (omega arith) (omega arith)))
+
+module _ (p : Plan) (rs : List ℕ) where
+  pub resolution-words : columns p ≤ mostColumns → firstAbove (wordList p rs) (columns p) ≡ resolutionIn p rs
+  unfolding resolution
+  resolution-words h =
+      first-cong (isAbove (wordList p rs)) (λ j. ltZ (pos 0) (word (level p) (entry p) rs (everyColumn p) j)) 1 (columns p)
+      (λ j l k. ap (ltZ (pos 0)) (word-at p rs j l (omega arith)))
+      ∙ ap (first (λ j. ltZ (pos 0) (word (level p) (entry p) rs (everyColumn p) j)) 1) (sym (length-from 0 (columns p)))

@@ -1,0 +1,120 @@
+-- What the routines over some runs of a plan are given, and the measures that every answer is made of.
+use mathlib.Core.Path.{_≡_}
+use mathlib.Core.Bool.{Bool, cond}
+use mathlib.Core.List.{List, [], _∷_, map}
+use Prim.Native.Nat.{ℕ, _+_, _*_, _-_, _≤_, _<_, _^_}
+use lib.Dec.{eqb, leb}
+use lib.IntN.{ℤ, pos, natAbs}
+use lib.Signed.{ltZ}
+use lib.ListN.{length, getD}
+use Rattle.exact.specs.Lists.{keep, holds, first}
+use Rattle.exact.specs.declared.fractions.Fraction.{Fraction}
+use Rattle.rules.specs.Plan.{Plan, columns, level, entry, everyColumn, mostColumns}
+use Rattle.rules.specs.Refusals.{Check, refusal, unless, noResolution, badPlace, ofPlan}
+use Rattle.rules.specs.declared.Refusal.{Refusal}
+use Rattle.words.specs.Words.{word}
+use Rattle.words.specs.Answers.{wordList}
+use Rattle.projections.specs.Given.{Tabled}
+use Rattle.projections.specs.Projections.{relativeOf}
+use Rattle.resolution.specs.Resolution.{greatest, resolutionIn, ratioIn, ratioChecksIn, thousandthsOf}
+use Rattle.resolution.specs.Charts.{quotient, zeroFigure, zeroChart, figureOf, columnRatio}
+use Rattle.resolution.specs.declared.ResolutionAnswer.{ResolutionAnswer}
+use Rattle.resolution.specs.declared.GeneralizedAnswer.{GeneralizedAnswer}
+use Rattle.resolution.specs.declared.Chart.{Chart}
+use Rattle.resolution.specs.declared.ChartAnswer.{ChartAnswer}
+use Rattle.resolution.specs.declared.Figure.the-variants.{Clear}
+use Rattle.resolution.specs.declared.FigureAnswer.{FigureAnswer}
+use Rattle.resolution.specs.declared.inner.Ratios.{Ratios}
+use Rattle.resolution.specs.declared.inner.Rating.{Rating}
+
+-- some runs of a plan, and their words
+pub record Measured (p : Plan) (rs : List ℕ) (words : List ℤ) : Type 0 where
+  pub tabled : Tabled p rs
+  pub of-runs : words ≡ wordList p rs
+
+-- the word of length j, zero past the last; the words stand from length 1 on
+abbrev pub wordIn : List ℤ → ℕ → ℤ
+wordIn words j = cond (leb j mostColumns) (getD words (j - 1) (pos 0)) (pos 0)
+
+-- whether the word of length j is above zero
+abbrev pub isAbove : List ℤ → ℕ → Bool
+isAbove words j = ltZ (pos 0) (getD words (j - 1) (pos 0))
+
+-- the first of the lengths 1 to m whose word is above zero, and m + 1 where there is none
+abbrev pub firstAbove : List ℤ → ℕ → ℕ
+firstAbove words m = first (isAbove words) 1 m
+
+-- the greatest relative value of the sets, and of those that hold column i
+unfoldable pub ratiosOf : Plan → List ℕ → List (List ℕ) → ℕ → Ratios
+ratiosOf p rs sets i = record {
+  largest = greatest (map (relativeOf (level p) (entry p) rs) sets);
+  held = greatest (map (relativeOf (level p) (entry p) rs) (keep (holds i) sets));
+}
+
+-- ---- what every answer is made of
+
+-- a rating that refuses: every other number is zero
+abbrev pub refusing : Refusal → Rating
+refusing r =
+    let none : Fraction = record { num = 0; den = 0 } in
+    record { refused = r; columns = 0; pairs = 0; resolution = 0; word = pos 0; next = pos 0; largest = none; held = none }
+
+module _ (p : Plan) (rs : List ℕ) where
+  -- m, n², R, W_R, W_(R+1), the largest ratio, and that of column i
+  abbrev pub measures : ℕ → Refusal → Rating
+  measures i r = record {
+    refused = r;
+    columns = columns p;
+    pairs = length rs * length rs;
+    resolution = resolutionIn p rs;
+    word = word (level p) (entry p) rs (everyColumn p) (resolutionIn p rs);
+    next = word (level p) (entry p) rs (everyColumn p) (resolutionIn p rs + 1);
+    largest = ratioIn p rs;
+    held = columnRatio p rs i;
+  }
+
+  unfoldable pub ratingOf : (List Check → List Check) → ℕ → Rating
+  ratingOf start i = let r = refusal (start (ratioChecksIn p rs)) in unless r (refusing r) (measures i r)
+
+-- a call on levels, a table and a column: the checks of the plan and of the column, then its own
+abbrev pub ofColumn : Plan → ℕ → List Check → List Check
+ofColumn p i checks = ofPlan p (badPlace (columns p) i ∷ checks)
+
+-- numbers of which GR and the chart figures are made without loss
+pub record Small (x : Rating) : Type 0 where
+  pub length : x .resolution ≤ mostColumns
+  pub at-most-one : x .largest .num ≤ x .largest .den
+  pub short : x .largest .den < 2 ^ 32
+  pub held-num : x .held .num ≤ 2 ^ 53
+  pub held-den : x .held .den ≤ 2 ^ 53
+  pub word : natAbs (x .word) ≤ 2 ^ 53
+  pub next : natAbs (x .next) ≤ 2 ^ 53
+  pub pairs : x .pairs ≤ 2 ^ 53
+
+-- the answers, of a rating
+abbrev pub generalizedFrom : Rating → GeneralizedAnswer
+generalizedFrom x =
+    let r = x .refused in
+    record {
+      refused = r;
+      resolution = unless r 0 (x .resolution);
+      ratio = unless r (record { num = 0; den = 0 }) (x .largest);
+      thousandths = unless r 0 (thousandthsOf (x .resolution) (x .largest));
+    }
+
+abbrev pub chartOfRating : Rating → Chart
+chartOfRating x = record {
+  word = quotient (x .word) (x .pairs);
+  next = cond (eqb (x .resolution) (x .columns)) zeroFigure (quotient (x .next) (x .pairs));
+  ratio = quotient (pos (x .largest .num)) (x .largest .den);
+}
+
+abbrev pub chartFrom : Rating → ChartAnswer
+chartFrom x = record { refused = x .refused; chart = unless (x .refused) zeroChart (chartOfRating x) }
+
+abbrev pub figureFrom : Rating → FigureAnswer
+figureFrom x = record { refused = x .refused; figure = unless (x .refused) Clear (figureOf (x .held)) }
+
+-- the answer for the resolution, of R
+abbrev pub resolutionFrom : ℕ → ℕ → ResolutionAnswer
+resolutionFrom m R = let r = refusal (noResolution m R ∷ []) in record { refused = r; resolution = unless r 0 R }

@@ -1,0 +1,3 @@
+pub mod Resolution
+pub mod Charts
+pub mod Given

@@ -1,0 +1,179 @@
+// For our own crates: R and the ratios of some runs of a plan, and what the answers are made of. The runs that stand are such a list.
+use exact::fractions::Fraction;
+use exact::fractions::Verdict;
+use exact::fractions::smaller_fraction;
+use exact::signed;
+use projections::inner::value;
+use rules::Refusal;
+use rules::sizes::MOST_COLUMNS;
+use sets::inner::binomial;
+use sets::inner::set_at;
+ghost use mathlib.Core.Path.{_≡_};
+ghost use Prim.Native.Nat.{_≤_};
+ghost use lib.ListN.{length};
+ghost use Rattle.exact.specs.Fractions.{ShortDenominator};
+ghost use Rattle.exact.specs.Lists.{holds};
+ghost use Rattle.rules.specs.Plan.{plan, columns, everyRun, mostColumns};
+ghost use Rattle.sets.specs.Sets.{setsOf};
+ghost use Rattle.projections.specs.Given.{Tabled};
+ghost use Rattle.resolution.specs.Resolution.{greater};
+ghost use Rattle.resolution.specs.Given.{Measured, wordIn, firstAbove, ratiosOf, refusing, ratingOf, ofColumn};
+
+// The largest ratio of some sets of columns, and that of those among them that hold one column.
+pub struct Ratios {
+    pub largest: Fraction,
+    pub held: Fraction,
+}
+
+// What every answer is made of: the columns m, the pairs n², R, the words W_R and W_(R+1), the largest ratio and a column's.
+pub struct Rating {
+    pub refused: Refusal,
+    pub columns: usize,
+    pub pairs: u64,
+    pub resolution: usize,
+    pub word: i64,
+    pub next: i64,
+    pub largest: Fraction,
+    pub held: Fraction,
+}
+
+// The first length whose word is above zero, and m + 1 where there is none.
+pub fn resolution(words: &[i64; 24], m: usize) -> usize
+    requires { ⌜ m ≤ mostColumns ⌝ }
+    ensures { λ r. ⌜ r ≡ firstAbove (now (words .entry)) m ⌝ }
+{
+    let mut j = 1;
+    while j <= m {
+        if signed::lt(0, words[j - 1]) {
+            return j;
+        }
+        j += 1;
+    }
+    j
+}
+
+// The greater of two fractions; of equal ones the first.
+fn greater(x: Fraction, y: Fraction) -> Fraction
+    requires { ⌜ (ShortDenominator x) × (ShortDenominator y) ⌝ }
+    ensures { λ r. ⌜ r ≡ greater x y ⌝ }
+{
+    match smaller_fraction(x, y) {
+        Verdict::Better => y,
+        Verdict::Worse => x,
+        Verdict::Equal => x,
+    }
+}
+
+// Whether the column is among those of a set.
+fn holds(columns: &[usize], column: usize) -> bool
+    ensures { λ r. ⌜ r ≡ holds column (now (columns .entry)) ⌝ }
+{
+    for k in 0..columns.len() {
+        if column == columns[k] {
+            return true;
+        }
+    }
+    false
+}
+
+// The largest ratio of the sets of `size` columns, and of those that hold the column: one walk over the sets.
+pub fn largest_ratios(
+    levels: &[u8],
+    table: &[u8],
+    runs: &[usize],
+    size: usize,
+    column: usize,
+) -> Ratios
+    requires { ⌜ Tabled (plan (now levels) (now table)) (now runs) × ((1 ≤ size) × (size ≤ length (now levels))) ⌝ }
+    ensures { λ r.
+        ⌜ (let p = plan (now (levels .entry)) (now (table .entry)) in r ≡ ratiosOf p (now (runs .entry)) (setsOf (columns p) size) column) ⌝ }
+{
+    let m = levels.len();
+    let many = binomial(m, size);
+    let mut largest = Fraction { num: 0, den: 1 };
+    let mut held = Fraction { num: 0, den: 1 };
+    for k in 0..many {
+        let set = set_at(m, size, k);
+        let ratio = value(levels, table, runs, &set[..size], true);
+        largest = greater(largest, ratio);
+        if holds(&set[..size], column) {
+            held = greater(held, ratio);
+        }
+    }
+    Ratios { largest, held }
+}
+
+// The word of length j; no set has more than 24 columns, so that a greater length has the word zero.
+fn word_at(words: &[i64; 24], j: usize) -> i64
+    requires { ⌜ 1 ≤ j ⌝ }
+    ensures { λ r. ⌜ r ≡ wordIn (now (words .entry)) j ⌝ }
+{
+    if j <= MOST_COLUMNS { words[j - 1] } else { 0 }
+}
+
+// A rating that refuses.
+pub fn refusing(refused: Refusal) -> Rating
+    ensures { λ r. ⌜ r ≡ refusing refused ⌝ }
+{
+    Rating {
+        refused,
+        columns: 0,
+        pairs: 0,
+        resolution: 0,
+        word: 0,
+        next: 0,
+        largest: Fraction { num: 0, den: 0 },
+        held: Fraction { num: 0, den: 0 },
+    }
+}
+
+// Refusals 11 and 12, and beside them the measures of the runs, whose words these are.
+pub fn rate(levels: &[u8], table: &[u8], runs: &[usize], words: &[i64; 24], column: usize) -> Rating
+    requires { ⌜ Measured (plan (now levels) (now table)) (now runs) (now words) ⌝ }
+    ensures { λ r.
+        ⌜ r ≡ ratingOf (plan (now (levels .entry)) (now (table .entry))) (now (runs .entry)) (λ checks. checks) column ⌝ }
+{
+    let m = levels.len();
+    let size = resolution(words, m);
+    if m < size {
+        return refusing(Refusal::plain(11));
+    }
+    let ratios = largest_ratios(levels, table, runs, size, column);
+    let largest = ratios.largest;
+    let held = ratios.held;
+    if largest.den < largest.num {
+        return refusing(Refusal::plain(12));
+    }
+    let n = runs.len() as u64;
+    let word = word_at(words, size);
+    let next = word_at(words, size + 1);
+    Rating {
+        refused: Refusal::accepted(),
+        columns: m,
+        pairs: n * n,
+        resolution: size,
+        word,
+        next,
+        largest,
+        held,
+    }
+}
+
+// The measures of every run of a plan, behind the checks of the plan and of the column.
+pub fn rate_plan(levels: &[u8], table: &[u8], column: usize) -> Rating
+    ensures { λ r.
+        ⌜ (let p = plan (now (levels .entry)) (now (table .entry)) in r ≡ ratingOf p (everyRun p) (ofColumn p column) column) ⌝ }
+{
+    let refused = plan::check(levels, table);
+    if refused.number != 0 {
+        return refusing(refused);
+    }
+    let m = levels.len();
+    if m <= column {
+        return refusing(Refusal::plain(8));
+    }
+    let words = words::inner::words_of_plan(levels, table);
+    let n = table.len() / m;
+    let runs = plan::inner::every_run(n);
+    rate(levels, table, &runs[..n], &words, column)
+}
