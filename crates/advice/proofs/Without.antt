@@ -1,0 +1,92 @@
+-- The runs but one: rising runs stay rising, lose that run and no other.
+use mathlib.Core.Path.{_≡_, refl, sym, _∙_, ap}
+use mathlib.Core.Bool.{Bool, true, false, not, cond}
+use mathlib.Core.Logic.{_⊎_, inl, inr}
+use mathlib.Core.List.{List, [], _∷_, _++_, List·Memᴰ, List·Memᴰ·head, List·Memᴰ·tail, List·Memᴰ·not-nil, List·Memᴰ·cases-cons}
+use Prim.Native.Nat.{ℕ, suc, _≤_, _<_}
+use native.Mathlib.Omega.{arith}
+use lib.Dec.{eqb, eqb→eq, eqb-refl}
+use lib.ListN.{length, length-append}
+use Rattle.exact.specs.Lists.{keep}
+use Rattle.exact.proofs.Tests.{is-true, is-false}
+use Rattle.advice.specs.Advice.{without}
+use Rattle.advice.specs.Given.{Rising}
+
+-- ---- what is kept of a list
+
+module _ (test : ℕ → Bool) where
+  pub keep-mem : (rs : List ℕ) (g : ℕ) → List·Memᴰ g (keep test rs) → List·Memᴰ g rs
+  keep-mem [] g m = m
+  keep-mem (f ∷ fs) g m = go (test f) m (keep-mem fs g)
+    where
+      go : (t : Bool) → List·Memᴰ g (cond t (f ∷ keep test fs) (keep test fs)) → (List·Memᴰ g (keep test fs) → List·Memᴰ g fs) → List·Memᴰ g (f ∷ fs)
+      go true n later = first (List·Memᴰ·cases-cons n)
+        where
+          first : (g ≡ f) ⊎ List·Memᴰ g (keep test fs) → List·Memᴰ g (f ∷ fs)
+          first (inl e) = List·Memᴰ·head e
+          first (inr k) = List·Memᴰ·tail (later k)
+      go false n later = List·Memᴰ·tail (later n)
+
+  pub keep-rising : (rs : List ℕ) → Rising rs → Rising (keep test rs)
+  keep-rising [] r = r
+  keep-rising (f ∷ fs) r = go (test f) (keep-rising fs (r .1))
+    where
+      go : (t : Bool) → Rising (keep test fs) → Rising (cond t (f ∷ keep test fs) (keep test fs))
+      go true k = (λ g m. r .0 g (keep-mem fs g m), k)
+      go false k = k
+
+-- ---- without one run
+
+-- a run that is not there is not lost
+without-none : (f : ℕ) (rs : List ℕ) → ((g : ℕ) → List·Memᴰ g rs → ¬ (g ≡ f)) → without f rs ≡ rs
+without-none f [] h = refl
+without-none f (g ∷ rs) h =
+    rw (is-false (eqb g f) (λ t. h g (List·Memᴰ·head refl) (eqb→eq g f t)), without-none f rs (λ k m. h k (List·Memᴰ·tail m)))
+
+-- the runs before f and after it
+pub record Parted (f : ℕ) (rs : List ℕ) : Type 0 where
+  pub front : List ℕ
+  pub back : List ℕ
+  pub whole : rs ≡ front ++ f ∷ back
+  pub left : without f rs ≡ front ++ back
+
+pub parted : (f : ℕ) (rs : List ℕ) → Rising rs → List·Memᴰ f rs → Parted f rs
+parted f [] r m = absurd (List·Memᴰ·not-nil m)
+parted f (g ∷ rs) r m = go (List·Memᴰ·cases-cons m) (parted f rs (r .1))
+  where
+    go : (f ≡ g) ⊎ List·Memᴰ f rs → (List·Memᴰ f rs → Parted f rs) → Parted f (g ∷ rs)
+    go (inl e) later = record {
+      front = [];
+      back = rs;
+      whole = ap (λ k. k ∷ rs) (sym e);
+      left = rw (is-true (eqb g f) (rw e (eqb-refl g))) (without-none f rs (λ k n d. let l = r .0 k n in absurd (omega arith)));
+    }
+    go (inr n) later =
+        let P = later n in
+        record {
+          front = g ∷ P .front;
+          back = P .back;
+          whole = ap (λ l. g ∷ l) (P .whole);
+          left = rw (is-false (eqb g f) (λ t. let e = eqb→eq g f t in let l = r .0 f n in omega arith), P .left);
+        }
+
+-- of two or more runs one is left
+pub without-some : (f : ℕ) (rs : List ℕ) → Rising rs → 2 ≤ length rs → 0 < length (without f rs)
+without-some f [] r h = absurd (omega arith)
+without-some f (a ∷ []) r h = absurd (omega arith)
+without-some f (a ∷ b ∷ rs) r h = go (eqb a f) refl (eqb b f) refl
+  where
+    go : (s : Bool) → eqb a f ≡ s → (t : Bool) → eqb b f ≡ t →
+        0 < length (cond (not s) (a ∷ cond (not t) (b ∷ without f rs) (without f rs)) (cond (not t) (b ∷ without f rs) (without f rs)))
+    go false d t e = omega arith
+    go true d false e = omega arith
+    go true d true e =
+        let x = eqb→eq a f (rw d tt) in let y = eqb→eq b f (rw e tt) in let l = r .0 b (List·Memᴰ·head refl) in absurd (omega arith)
+
+-- one run fewer
+pub without-length : (f : ℕ) (rs : List ℕ) → Rising rs → List·Memᴰ f rs → length rs ≡ suc (length (without f rs))
+without-length f rs r m =
+    let P = parted f rs r m in
+    let a = ap length (P .whole) ∙ length-append (P .front) (f ∷ P .back) in
+    let b = ap length (P .left) ∙ length-append (P .front) (P .back) in
+    omega arith

@@ -1,0 +1,3 @@
+pub mod Advice
+pub mod Rows
+pub mod Given

@@ -1,0 +1,66 @@
+-- Document 01, "Worked figures": strikes on these plans, from the definitions.
+use mathlib.Core.Path.{_≡_, refl}
+use mathlib.Core.List.{List, [], _∷_, map}
+use lib.IntN.{ℤ, pos}
+use lib.ListN.{take}
+use Rattle.rules.specs.Plan.{Plan, plan}
+use Rattle.rules.specs.Refusals.{firstBadLevel, firstBadEntry}
+use Rattle.words.specs.Words.{score, wordOf, word}
+use Rattle.words.specs.Answers.{wordList, wordsAnswer}
+use Rattle.held.specs.declared.Held.{Held}
+use Rattle.held.specs.Held.{standing, heldOf, openAnswer, Call, strikes, reinstates, callChecks, remarked, callAnswer}
+use Rattle.held.specs.History.{after}
+use Rattle.held.specs.Answers.{heldWords}
+
+-- of the plan held after an opening and the calls: the words of length 1 and 2, the refusal number of one more call, or of a question
+data Question : Type 0 where
+  words : Plan → List Call → Question
+  refusedCall : Plan → List Call → Call → Question
+  refusedQuestion : Plan → List Call → Question
+
+abbrev heldAfter : Plan → List Call → Held
+heldAfter p cs = after (openAnswer p .held) cs
+
+ask : Question → List ℤ
+unfolding openAnswer firstBadLevel firstBadEntry heldOf standing callAnswer callChecks remarked wordList word wordOf score heldWords wordsAnswer
+ask (words p cs) = take 2 (heldAfter p cs .words)
+ask (refusedCall p cs c) = pos (callAnswer (heldAfter p cs) c .refused .number) ∷ []
+ask (refusedQuestion p cs) = pos (heldWords (heldAfter p cs) .answer .refused .number) ∷ []
+
+record Figure : Type 0 where
+  question : Question
+  answer : List ℤ
+
+abbrev is : Question → List ℤ → Figure
+is q a = record { question = q; answer = a }
+
+-- levels 2,3, runs 00 01 12
+abbrev listed : Plan
+listed = plan (2 ∷ 3 ∷ []) (0 ∷ 0 ∷ 0 ∷ 1 ∷ 1 ∷ 2 ∷ [])
+
+-- levels 3,2, one run
+abbrev single : Plan
+single = plan (3 ∷ 2 ∷ []) (2 ∷ 1 ∷ [])
+
+-- no plan: the opening is refused
+abbrev refused : Plan
+refused = plan [] []
+
+-- in the paper's order; then a run struck and reinstated, and the refusals of calls on a plan and on the empty plan
+figures : List Figure
+figures =
+    is (words listed (strikes 0 ∷ [])) (pos 2 ∷ pos 6 ∷ [])
+    ∷ is (words listed (strikes 2 ∷ [])) (pos 6 ∷ pos 2 ∷ [])
+    ∷ is (refusedCall single [] (strikes 0)) (pos 10 ∷ [])
+    ∷ is (words listed (strikes 0 ∷ reinstates 0 ∷ [])) (pos 1 ∷ pos 8 ∷ [])
+    ∷ is (words listed (strikes 0 ∷ reinstates 0 ∷ strikes 2 ∷ [])) (pos 6 ∷ pos 2 ∷ [])
+    ∷ is (refusedCall listed [] (strikes 3)) (pos 8 ∷ [])
+    ∷ is (refusedCall listed [] (reinstates 0)) (pos 9 ∷ [])
+    ∷ is (refusedCall listed (strikes 0 ∷ []) (strikes 0)) (pos 9 ∷ [])
+    ∷ is (refusedCall refused [] (strikes 0)) (pos 8 ∷ [])
+    ∷ is (refusedQuestion refused []) (pos 10 ∷ [])
+    ∷ []
+
+held-figures : map (λ c. ask (c .question)) figures ≡ map (λ c. c .answer) figures
+unfolding ask figures
+held-figures = refl

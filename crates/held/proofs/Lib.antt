@@ -1,0 +1,14 @@
+pub mod Standing
+pub mod Marks
+pub mod History
+pub mod Opened
+pub mod Sizes
+pub mod Walk
+pub mod Update
+pub mod Lent
+pub mod Branches
+pub mod Rating
+pub mod Projected
+pub mod Seen
+pub mod Alike
+pub mod Figures

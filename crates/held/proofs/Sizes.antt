@@ -1,0 +1,130 @@
+-- What a function may use of a held plan: its sizes, that its standing runs are sound, and how a question begins.
+use mathlib.Core.Path.{_≡_, refl, sym, subst}
+use mathlib.Core.Bool.{Bool, true, false}
+use mathlib.Core.List.{List, [], _∷_, List·Memᴰ, List·Memᴰ·not-nil}
+use Prim.Native.Nat.{ℕ, _*_, _≤_, _<_}
+use native.Mathlib.Omega.{arith}
+use borrow.Author.Tests.{lt-ltb, le-ltb, ne-eqb}
+use lib.Dec.{eqb}
+use lib.ListN.{length, length-append, length-replicate}
+use Rattle.exact.specs.Lists.{filledTo}
+use Rattle.exact.proofs.Numbers.{length-from, mul-below}
+use Rattle.rules.specs.Plan.{Plan, plan, columns, runs, level, everyRun, lowestLevel}
+use Rattle.rules.specs.Refusals.{Check, refusal, plain, accepted, tooFew}
+use Rattle.plan.specs.Good.{Sound}
+use Rattle.plan.proofs.Sound.{run-mem, good-sound}
+use Rattle.words.proofs.OfPlan.{sound-run}
+use Rattle.held.specs.declared.Held.{Held}
+use Rattle.held.specs.Held.{standing, heldOf, IsHeld, none-held, held, marksIn, planIn, standingIn}
+use Rattle.held.specs.Answers.{ofStanding}
+use Rattle.held.proofs.Standing.{stands-below, standing-within}
+use Rattle.held.proofs.Marks.{marks-in, plan-in}
+
+-- some of sound runs are sound
+pub some-sound : (p : Plan) (rs ss : List ℕ) → Sound p rs → length ss ≤ length rs → ((f : ℕ) → List·Memᴰ f ss → List·Memᴰ f rs) → Sound p ss
+some-sound p rs ss S fewer among = record {
+  columns-high = S .columns-high;
+  level-low = S .level-low;
+  level-high = S .level-high;
+  small = S .small;
+  few = omega (arith, S .few);
+  numbered = λ f m. S .numbered f (among f m);
+  inside = λ f m. S .inside f (among f m);
+  below = λ f m. S .below f (among f m);
+}
+
+-- the levels alone
+pub levels-sound : (p : Plan) (rs : List ℕ) → Sound p rs → Sound (plan (p .levels) []) []
+levels-sound p rs S = record {
+  columns-high = S .columns-high;
+  level-low = S .level-low;
+  level-high = S .level-high;
+  small = S .small;
+  few = omega arith;
+  numbered = λ f m. absurd (List·Memᴰ·not-nil m);
+  inside = λ f m. absurd (List·Memᴰ·not-nil m);
+  below = λ f m. absurd (List·Memᴰ·not-nil m);
+}
+
+pub filled : {A : Type 0} (n : ℕ) (d : A) (xs : List A) → length xs ≤ n → length (filledTo n d xs) ≡ n
+filled n d xs h = rw (length-append, length-replicate) (omega arith)
+
+pub record Sized (h : Held) : Type 0 where
+  pub columns-high : h .columns ≤ 24
+  pub runs-high : h .runs ≤ 256
+  pub table-high : h .runs * h .columns ≤ 6144
+  pub levels-room : length (h .levels) ≡ 24
+  pub entries-room : length (h .entries) ≡ 6144
+  pub marks-held : length (marksIn h) ≡ h .runs
+  pub sound : Sound (planIn h) (standingIn h)
+  pub each : (f : ℕ) → f < h .runs → Sound (planIn h) (f ∷ [])
+  pub level-low : (i : ℕ) → i < columns (planIn h) → lowestLevel ≤ level (planIn h) i
+  pub columns-low : 0 < h .runs → 0 < h .columns
+  pub some-stand : 0 < h .runs → 0 < length (standingIn h)
+
+pub sized : {h : Held} → IsHeld h → Sized h
+unfolding heldOf standing
+sized none-held = record {
+  columns-high = omega arith;
+  runs-high = omega arith;
+  table-high = omega arith;
+  sound = record {
+    columns-high = omega arith;
+    level-low = λ i h. absurd (omega arith);
+    level-high = λ i h. absurd (omega arith);
+    small = omega arith;
+    few = omega arith;
+    numbered = λ f m. absurd (List·Memᴰ·not-nil m);
+    inside = λ f m. absurd (List·Memᴰ·not-nil m);
+    below = λ f m. absurd (List·Memᴰ·not-nil m);
+  };
+  levels-room = length-replicate {A = ℕ} 24 0;
+  entries-room = length-replicate {A = ℕ} 6144 0;
+  marks-held = refl;
+  each = λ f h. absurd (omega arith);
+  level-low = λ i h. absurd (omega arith);
+  columns-low = λ h. absurd (omega arith);
+  some-stand = λ h. absurd (omega arith);
+}
+sized (held p marks G size left) = record {
+  columns-high = G .columns-high;
+  runs-high = G .runs-high;
+  table-high = mul-below (runs p) (columns p) 256 24 (G .runs-high) (G .columns-high);
+  sound =
+      rw (plan-in p G marks size, marks-in p marks size)
+      (some-sound p (everyRun p) (standing marks) (good-sound p G) (omega (arith, standing-within marks, length-from 0 (runs p)))
+      (λ f m. run-mem p f (omega (arith, stands-below marks f m))));
+  levels-room = filled 24 0 (p .levels) (G .columns-high);
+  entries-room = filled 6144 0 (p .table) (omega (arith, G .size, mul-below (runs p) (columns p) 256 24 (G .runs-high) (G .columns-high)));
+  marks-held = rw (marks-in p marks size) size;
+  level-low =
+      subst (λ q. (i : ℕ) → i < columns q → lowestLevel ≤ level q i) (sym (plan-in p G marks size)) (G .level-low);
+  columns-low = λ h. G .columns-low;
+  each = λ f h. rw (plan-in p G marks size) (sound-run p (everyRun p) (good-sound p G) f (run-mem p f h));
+  some-stand = λ h. rw (marks-in p marks size) left;
+}
+
+-- ---- how a question begins
+
+module _ {h : Held} (H : IsHeld h) (checks : List Check) where
+  -- on the empty plan it is refused by 10
+  pub none-refuses : h .runs ≡ 0 → refusal (ofStanding h checks) ≡ plain 10
+  unfolding standing
+  none-refuses e = rw e
+
+  -- with a run standing it has its own checks
+  pub some-asks : ¬ (h .runs ≡ 0) → refusal (ofStanding h checks) ≡ refusal checks
+  some-asks n = let l = sized H .some-stand (omega arith) in rw (ne-eqb (length (standingIn h)) 0 (λ e. omega arith))
+
+-- ---- where two or more must stand
+
+module _ (h : Held) where
+  pub few-refused : length (standingIn h) < 2 → refusal (ofStanding h (tooFew 2 (length (standingIn h)) ∷ [])) ≡ plain 10
+  few-refused l = go (eqb (length (standingIn h)) 0) refl
+    where
+      go : (b : Bool) → eqb (length (standingIn h)) 0 ≡ b → refusal (ofStanding h (tooFew 2 (length (standingIn h)) ∷ [])) ≡ plain 10
+      go true e = rw e
+      go false e = rw (e, lt-ltb (length (standingIn h)) 2 l)
+
+  pub enough-accepted : 2 ≤ length (standingIn h) → refusal (ofStanding h (tooFew 2 (length (standingIn h)) ∷ [])) ≡ accepted
+  enough-accepted l = rw (ne-eqb (length (standingIn h)) 0 (λ e. omega arith), le-ltb (length (standingIn h)) 2 l)

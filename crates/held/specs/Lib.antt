@@ -1,0 +1,4 @@
+pub mod Held
+pub mod History
+pub mod Answers
+pub mod Given
