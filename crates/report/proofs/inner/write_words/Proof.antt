@@ -1,0 +1,114 @@
+-- The lines of the lengths below j are put in.
+use mathlib.Core.Path.{_≡_, refl, _∙_, ap, subst}
+use Prim.Native.Nat.{_+_, _*_, _-_, _≤_}
+use native.Mathlib.Omega.{arith}
+use lib.IntN.{pos, natAbs}
+use lib.ListN.{getD}
+use Rattle.exact.specs.Fractions.{reduced}
+use Rattle.exact.proofs.Bits.{of}
+use Rattle.report.specs.Listing.{wordLine}
+use Rattle.report.specs.Parts.{Put, wordLinesOf}
+use Rattle.report.proofs.Puts.{put-none, put-kept}
+use Rattle.report.proofs.Words.{words-next, words-all}
+use Rattle.report.proofs.inner.write_words.Statement.{statement}
+use Rattle.report.proofs.inner.write_words.Tie as tie
+
+abbrev Inv-loop : tie.InvT-loop
+Inv-loop words m pairs room₀ at end₀ j₀ t10 room end j =
+    (1 ≤ j) × (j ≤ m + 1) × Put (wordLinesOf words pairs (j - 1)) (68 * (j - 1)) end₀ room₀ end room
+
+abbrev μ-loop : tie.MeasureT-loop
+μ-loop words m pairs room₀ at end₀ j₀ t10 room end j = m + 1 - j
+
+loop-holds : tie.Need-loop-holds Inv-loop μ-loop
+loop-holds c = let a = c .before .args in (omega arith, omega arith, put-none (a .at) (a .room .now) (omega (arith, c .before .pre .1)))
+
+sub-to-u64 : tie.Need-sub-to-u64 Inv-loop μ-loop
+sub-to-u64 c = omega arith
+
+mul-to-u64 : tie.Need-mul-to-u64 Inv-loop μ-loop
+mul-to-u64 c = omega (arith, c .before .before .before .pre .0 .few)
+
+element-copy-out-to-u64 : tie.Need-element-copy-out-to-u64 Inv-loop μ-loop
+element-copy-out-to-u64 c = omega (arith, c .before .before .before .pre .0 .few)
+
+to-u64-requires : tie.Need-to-u64-requires Inv-loop μ-loop
+to-u64-requires c κs =
+    let l = c .before .before in
+    let s = l .before .before in
+    rw (of (getD (s .args .words .now) (l .loop .j - 1) (pos 0)) (c .to-u64-arg .given)) (s .pre .0 .not-negative (l .loop .j) (omega arith) (omega arith))
+
+reduced-requires : tie.Need-reduced-requires Inv-loop μ-loop
+reduced-requires c κs = c .before .before .before .before .before .pre .0 .some
+
+slice-aggregate-write-line : tie.Need-slice-aggregate-write-line Inv-loop μ-loop
+slice-aggregate-write-line c = refl
+
+slice-aggregate-write-line-2 : tie.Need-slice-aggregate-write-line-2 Inv-loop μ-loop
+slice-aggregate-write-line-2 c = refl
+
+write-line-requires : tie.Need-write-line-requires Inv-loop μ-loop
+write-line-requires c κs =
+    let l = c .before .before .before .before .before .before .before in
+    let P = l .loop .inv .2 in
+    omega (arith, l .before .before .pre .1, P .behind, P .short, put-kept P)
+
+add-j : tie.Need-add-j Inv-loop μ-loop
+add-j c = omega (arith, c .before .before .before .before .before .before .before .before .before .before .before .before .pre .0 .few)
+
+loop-less : tie.Need-loop-less Inv-loop μ-loop
+loop-less c = omega arith
+
+-- the fraction is that of the word of length j
+fraction : (c : tie.After-reduced Inv-loop μ-loop) →
+    let l = c .before .before .before .before in
+    let a = l .before .before .args in
+    c .reduced .result ≡ reduced (natAbs (getD (a .words .now) (l .loop .j - 1) (pos 0))) (a .pairs)
+fraction c =
+    let l = c .before .before .before .before in
+    let a = l .before .before .args in
+    let z = getD (a .words .now) (l .loop .j - 1) (pos 0) in
+    c .reduced .ensures ∙ ap (λ n. reduced n (a .pairs)) (ap natAbs (c .before .to-u64 .ensures ∙ of z (c .before .before .to-u64-arg .given)))
+
+loop-again : tie.Need-loop-again Inv-loop μ-loop
+loop-again c =
+    let w = c .before .before in
+    let r = w .before .before .before .before in
+    let l = r .before .before .before .before in
+    let a = l .before .before .args in (
+      omega arith,
+      omega arith,
+      words-next (a .words .now) (a .pairs) (l .loop .j) (l .loop .inv .0) (l .loop .inv .2)
+          (subst (λ x. Put (wordLine (l .loop .j) x) 68 (l .loop .end) (l .loop .room) (w .write-line .result) (w .write-line .last .1 .1 .0))
+          (fraction r) (w .write-line .ensures)),
+    )
+
+returns : tie.Need-returns Inv-loop μ-loop
+returns c =
+    let l = c .before .loop in
+    let a = c .before .before .before .args in
+    words-all (a .words .now) (a .pairs) (a .m) (l .j) (omega arith) (l .inv .2)
+
+same-length : tie.Need-same-length Inv-loop μ-loop
+same-length c = put-kept (returns c)
+
+pub write-words-spec : {M : Type 1} → statement M
+write-words-spec =
+    tie.close
+    (tie.spec
+    Inv-loop
+    μ-loop
+    loop-holds
+    sub-to-u64
+    mul-to-u64
+    element-copy-out-to-u64
+    to-u64-requires
+    reduced-requires
+    slice-aggregate-write-line
+    slice-aggregate-write-line-2
+    write-line-requires
+    add-j
+    loop-less
+    loop-again
+    same-length
+    returns)

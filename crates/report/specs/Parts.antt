@@ -1,0 +1,67 @@
+-- How the listing is put together: its parts are put into a room one after the other.
+use mathlib.Core.Path.{_≡_}
+use mathlib.Core.Bool.{cond}
+use mathlib.Core.List.{List, [], _∷_}
+use Prim.Native.Nat.{ℕ, _+_, _*_, _-_, _≤_, _<_}
+use lib.IntN.{ℤ, pos, natAbs}
+use lib.Signed.{_≤ℤ_}
+use lib.ListN.{length, getD}
+use Rattle.exact.specs.Lists.{from, each}
+use Rattle.exact.specs.Fractions.{reduced}
+use Rattle.rules.specs.Plan.{Plan, everyRun, mostColumns}
+use Rattle.rules.specs.Refusals.{refusal, refuses}
+use Rattle.plan.specs.Good.{Good}
+use Rattle.words.specs.Answers.{wordList}
+use Rattle.resolution.specs.Resolution.{generalizedAnswer}
+use Rattle.resolution.specs.declared.GeneralizedAnswer.{GeneralizedAnswer}
+use Rattle.text.specs.Bytes.{putAt}
+use Rattle.report.specs.Listing.{wordLine, ratioLines, noResolutionLine, ratioCheck, printed}
+
+-- the bytes xs, `most` of them at most, were put into a room from place `at` on: the place behind them, and the room then
+pub record Put (xs : List ℕ) (most at : ℕ) (room : List ℕ) (next : ℕ) (after : List ℕ) : Type 0 where
+  pub fits : at + length xs ≤ length room
+  pub short : length xs ≤ most
+  pub behind : next ≡ at + length xs
+  pub stored : after ≡ putAt at xs room
+
+-- a number of 64 bits has 20 digits or fewer, and a space before them
+abbrev pub mostOfLine : List ℕ → List ℕ → ℕ
+mostOfLine name xs = length name + 21 * length xs + 1
+
+-- no listing is longer
+abbrev pub mostBytes : ℕ
+mostBytes = 2048
+
+-- ---- the parts, of the numbers that they show
+
+-- words by length, m of them to be shown, over the number of pairs of runs
+pub record Shown (words : List ℤ) (m pairs : ℕ) : Type 0 where
+  pub few : m ≤ mostColumns
+  pub some : 0 < pairs
+  pub not-negative : (j : ℕ) → 1 ≤ j → j ≤ m → pos 0 ≤ℤ getD words (j - 1) (pos 0)
+
+abbrev pub wordLinesOf : List ℤ → ℕ → ℕ → List ℕ
+wordLinesOf words pairs m = each (from 1 m) (λ j. wordLine j (reduced (natAbs (getD words (j - 1) (pos 0))) pairs))
+
+abbrev pub linesOfRating : GeneralizedAnswer → List ℕ
+linesOfRating x = cond (refuses (x .refused)) noResolutionLine (ratioLines (x .resolution) (x .ratio) (x .thousandths))
+
+-- the lines of an accepted plan, or that of refusal 12
+unfoldable pub ratedListing : Plan → List ℕ
+ratedListing p = printed (refusal (ratioCheck p ∷ [])) p
+
+-- every run of an accepted plan
+pub record Every (p : Plan) (rs : List ℕ) : Type 0 where
+  pub good : Good p
+  pub all : rs ≡ everyRun p
+
+-- and their words
+pub record Worded (p : Plan) (rs : List ℕ) (words : List ℤ) : Type 0 where
+  pub every : Every p rs
+  pub of-runs : words ≡ wordList p (everyRun p)
+
+-- and their rating, the largest ratio not above 1
+pub record Measured (p : Plan) (rs : List ℕ) (words : List ℤ) (x : GeneralizedAnswer) : Type 0 where
+  pub worded : Worded p rs words
+  pub rated : x ≡ generalizedAnswer p (everyRun p) (λ checks. checks)
+  pub at-most-one : ¬ (x .refused .number ≡ 12)

@@ -1,0 +1,5 @@
+pub mod Bytes
+pub mod Decimal
+pub mod Text
+pub mod Reader
+pub mod Reading

@@ -1,0 +1,69 @@
+/* Crumbchorus: exact words of an experimental plan, from its own runs.
+ *
+ * A plan is a list of levels, one byte for each column, and a run table of
+ * n times m bytes, run after run; an entry of column i is below its level.
+ * 1 to 24 columns, 1 to 256 runs, levels 2 to 16, product of the levels at
+ * most 2,000,000,000. Runs, columns and places are numbered from 0.
+ *
+ * The functions keep nothing between calls, allocate nothing, write to no
+ * memory but the room that they are lent, and always return. They may be
+ * called from several threads at once. A pointer whose length is 0 may be
+ * null; any other must point to that many bytes.
+ */
+#ifndef CRUMBCHORUS_H
+#define CRUMBCHORUS_H
+
+#include <stddef.h>
+#include <stdint.h>
+
+#ifdef __cplusplus
+extern "C" {
+#endif
+
+/* The scaled word of one length, 1 to the number of columns: the sum, over
+ * all sets of that many columns and all ordered pairs of runs (a run with
+ * itself included), of the product of the scores. Divided by the square of
+ * the number of runs it is the word of the generalized word length pattern.
+ *
+ * It is never negative. A negative answer is a refusal number, negated:
+ *   -1  no column, or more than 24
+ *   -2  a level is outside 2..16
+ *   -3  the product of the levels is above its limit
+ *   -4  the table is empty, not a multiple of the columns, or over 256 runs
+ *   -5  an entry is not below its level
+ *   -8  the length is outside 1 .. the number of columns
+ * The first that applies, in this order, is given.
+ */
+int64_t crumb_word(const uint8_t *levels, size_t columns,
+                   const uint8_t *table, size_t entries,
+                   uint64_t length);
+
+/* The listing of a plan text. Every line of the text ends with byte 10 and
+ * holds numbers with single commas between them, the levels first and then
+ * a line for each run:
+ *
+ *     2,3
+ *     0,0
+ *     0,1
+ *     1,2
+ *
+ * The listing has the runs and columns, a line for each word (length,
+ * numerator, denominator; a reduced fraction), the strength, the resolution
+ * with the largest ratio and the generalized resolution in thousandths, and
+ * the run advised for loss. For a text that is refused it is one line,
+ * `refused`, the number and its two places; 13 is a text of more than 32,768
+ * bytes, 14 a malformed line, and the others are those above.
+ *
+ * It goes to the front of `room`, without a byte 0 behind it, and the answer
+ * is the number of its bytes, 2048 at most. The room's other bytes stay as
+ * they were. Where the room is smaller than the listing the answer is -7 and
+ * no byte of the room is written.
+ */
+int64_t crumb_listing(const uint8_t *text, size_t length,
+                      uint8_t *room, size_t bytes);
+
+#ifdef __cplusplus
+}
+#endif
+
+#endif
