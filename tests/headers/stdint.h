@@ -1,0 +1,6 @@
+#ifndef TESTS_STDINT_H
+#define TESTS_STDINT_H
+typedef unsigned char uint8_t;
+typedef long int64_t;
+typedef unsigned long uint64_t;
+#endif

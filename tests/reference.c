@@ -1,0 +1,371 @@
+#include "reference.h"
+
+typedef __int128 wide;
+
+/* ---- refusals 1 to 5 */
+
+static Refusal refusal(int number, long first, long second)
+{
+    Refusal r = { number, first, second };
+    return r;
+}
+
+Refusal reference_check(const byte *levels, long columns, const byte *table, long entries)
+{
+    if (columns < 1 || columns > 24)
+        return refusal(1, 0, 0);
+    for (long i = 0; i < columns; i++)
+        if (levels[i] < 2 || levels[i] > 16)
+            return refusal(2, i, 0);
+    wide product = 1;
+    for (long i = 0; i < columns; i++)
+        product *= levels[i];
+    if (product > 2000000000)
+        return refusal(3, 0, 0);
+    if (entries == 0 || entries % columns != 0 || entries / columns > 256)
+        return refusal(4, 0, 0);
+    for (long run = 0; run < entries / columns; run++)
+        for (long i = 0; i < columns; i++)
+            if (table[run * columns + i] >= levels[i])
+                return refusal(5, run, i);
+    return refusal(0, 0, 0);
+}
+
+/* ---- a plan with some of its runs */
+
+typedef struct {
+    const byte *levels, *table;
+    long columns;
+    long runs[256];
+    long count;
+} Plan;
+
+static long entry(const Plan *p, long run, long column)
+{
+    return p->table[p->runs[run] * p->columns + column];
+}
+
+static long score(const Plan *p, long f, long g, long column)
+{
+    return entry(p, f, column) == entry(p, g, column) ? p->levels[column] - 1 : -1;
+}
+
+static Plan whole(const byte *levels, long columns, const byte *table, long entries)
+{
+    Plan p = { levels, table, columns, { 0 }, entries / columns };
+    for (long run = 0; run < p.count; run++)
+        p.runs[run] = run;
+    return p;
+}
+
+/* ---- sets of columns, in dictionary order */
+
+static int first_set(long *set, long size, long columns)
+{
+    for (long k = 0; k < size; k++)
+        set[k] = k;
+    return size <= columns;
+}
+
+static int next_set(long *set, long size, long columns)
+{
+    for (long k = size - 1; k >= 0; k--)
+        if (set[k] < columns - size + k) {
+            set[k]++;
+            for (long l = k + 1; l < size; l++)
+                set[l] = set[l - 1] + 1;
+            return 1;
+        }
+    return 0;
+}
+
+/* W(I) */
+static long set_word(const Plan *p, const long *set, long size)
+{
+    long sum = 0;
+    for (long f = 0; f < p->count; f++)
+        for (long g = 0; g < p->count; g++) {
+            long product = 1;
+            for (long k = 0; k < size; k++)
+                product *= score(p, f, g, set[k]);
+            sum += product;
+        }
+    return sum;
+}
+
+/* W_j */
+static long word(const Plan *p, long length)
+{
+    long set[24], sum = 0;
+    for (int more = first_set(set, length, p->columns); more; more = next_set(set, length, p->columns))
+        sum += set_word(p, set, length);
+    return sum;
+}
+
+long reference_word(const byte *levels, long columns, const byte *table, long entries, unsigned long length)
+{
+    Refusal r = reference_check(levels, columns, table, entries);
+    if (r.number != 0)
+        return -r.number;
+    if (length < 1 || length > (unsigned long)columns)
+        return -8;
+    Plan p = whole(levels, columns, table, entries);
+    return word(&p, (long)length);
+}
+
+/* ---- strength, from counts of every combination */
+
+static long occurrences(const Plan *p, const long *set, long size, const long *combination)
+{
+    long count = 0;
+    for (long run = 0; run < p->count; run++) {
+        int shows = 1;
+        for (long k = 0; k < size; k++)
+            if (entry(p, run, set[k]) != combination[k])
+                shows = 0;
+        count += shows;
+    }
+    return count;
+}
+
+static int even(const Plan *p, const long *set, long size)
+{
+    long combination[24] = { 0 };
+    long first = occurrences(p, set, size, combination);
+    for (;;) {
+        long k = size - 1;
+        while (k >= 0 && combination[k] == p->levels[set[k]] - 1)
+            combination[k--] = 0;
+        if (k < 0)
+            return 1;
+        combination[k]++;
+        if (occurrences(p, set, size, combination) != first)
+            return 0;
+    }
+}
+
+static long strength(const Plan *p)
+{
+    for (long t = p->columns; t > 0; t--) {
+        long set[24];
+        int balanced = 1;
+        for (int more = first_set(set, t, p->columns); more && balanced; more = next_set(set, t, p->columns))
+            balanced = even(p, set, t);
+        if (balanced)
+            return t;
+    }
+    return 0;
+}
+
+/* ---- fractions */
+
+typedef struct {
+    wide num, den;
+} Fraction;
+
+static Fraction reduced(wide num, wide den)
+{
+    wide a = num, b = den;
+    while (b != 0) {
+        wide rest = a % b;
+        a = b;
+        b = rest;
+    }
+    Fraction x = { num / a, den / a };
+    return x;
+}
+
+static int less(Fraction x, Fraction y)
+{
+    return x.num * y.den < y.num * x.den;
+}
+
+/* ---- resolution, the largest ratio, generalized resolution */
+
+static long resolution(const Plan *p)
+{
+    for (long j = 1; j <= p->columns; j++)
+        if (word(p, j) > 0)
+            return j;
+    return p->columns + 1;
+}
+
+static Fraction largest_ratio(const Plan *p, long size)
+{
+    Fraction largest = { 0, 1 };
+    long set[24];
+    for (int more = first_set(set, size, p->columns); more; more = next_set(set, size, p->columns)) {
+        long smallest = 16;
+        for (long k = 0; k < size; k++)
+            if (p->levels[set[k]] < smallest)
+                smallest = p->levels[set[k]];
+        Fraction x = reduced(set_word(p, set, size), (wide)p->count * p->count * (smallest - 1));
+        if (less(largest, x))
+            largest = x;
+    }
+    return largest;
+}
+
+static long thousandths(long size, Fraction ratio)
+{
+    wide q = 0;
+    while (q * q * ratio.den < 1000000 * ratio.num)
+        q++;
+    return 1000 * (size + 1) - (long)q;
+}
+
+/* ---- advice */
+
+static Plan without(const Plan *p, long place)
+{
+    Plan q = *p;
+    q.count = 0;
+    for (long run = 0; run < p->count; run++)
+        if (run != place)
+            q.runs[q.count++] = p->runs[run];
+    return q;
+}
+
+/* Whether the first words are better: smaller at the first length where they differ. Both plans have the same number of columns. */
+static int better(const Fraction *x, const Fraction *y, long columns)
+{
+    for (long j = 1; j <= columns; j++) {
+        if (less(x[j], y[j]))
+            return 1;
+        if (less(y[j], x[j]))
+            return 0;
+    }
+    return 0;
+}
+
+static long advice(const Plan *p)
+{
+    static Fraction losses[256][25];
+    for (long f = 0; f < p->count; f++) {
+        Plan left = without(p, f);
+        for (long j = 1; j <= p->columns; j++) {
+            losses[f][j].num = word(&left, j);
+            losses[f][j].den = (wide)left.count * left.count;
+        }
+    }
+    for (long f = 0; f < p->count; f++) {
+        int beaten = 0;
+        for (long g = 0; g < p->count; g++)
+            if (better(losses[g], losses[f], p->columns))
+                beaten = 1;
+        if (!beaten)
+            return p->runs[f];
+    }
+    return -1;
+}
+
+/* ---- plan text */
+
+typedef struct {
+    byte levels[16400], table[16400];
+    long columns, entries;
+} Read;
+
+/* One line's numbers; how many, or -1 where it is malformed. */
+static long read_line(const byte *line, long length, byte *numbers)
+{
+    long count = 0, at = 0;
+    for (;;) {
+        long start = at;
+        while (at < length && line[at] >= '0' && line[at] <= '9')
+            at++;
+        long digits = at - start;
+        if (digits < 1 || digits > 2 || (digits == 2 && line[start] == '0'))
+            return -1;
+        numbers[count++] = digits == 1 ? line[start] - '0' : (line[start] - '0') * 10 + line[start + 1] - '0';
+        if (at == length)
+            return count;
+        if (line[at++] != ',')
+            return -1;
+    }
+}
+
+static Refusal read_text(const byte *text, long length, Read *read)
+{
+    if (length > 32768)
+        return refusal(13, 0, 0);
+    read->columns = read->entries = 0;
+    long at = 0, line = 1;
+    do {
+        long end = at;
+        while (end < length && text[end] != 10)
+            end++;
+        if (end == length)
+            return refusal(14, line, 0);
+        long count = read_line(text + at, end - at, line == 1 ? read->levels : read->table + read->entries);
+        if (count < 0 || (line > 1 && count != read->columns))
+            return refusal(14, line, 0);
+        if (line == 1)
+            read->columns = count;
+        else
+            read->entries += count;
+        at = end + 1;
+        line++;
+    } while (at < length);
+    return reference_check(read->levels, read->columns, read->table, read->entries);
+}
+
+/* ---- the listing */
+
+static byte *put(byte *out, const char *name)
+{
+    while (*name)
+        *out++ = (byte)*name++;
+    return out;
+}
+
+static byte *field(byte *out, wide n)
+{
+    byte digits[40];
+    int count = 0;
+    do
+        digits[count++] = (byte)('0' + (int)(n % 10));
+    while ((n /= 10) > 0);
+    *out++ = ' ';
+    while (count > 0)
+        *out++ = digits[--count];
+    return out;
+}
+
+static byte *end_line(byte *out)
+{
+    *out++ = 10;
+    return out;
+}
+
+long reference_listing(const byte *text, long length, byte *out)
+{
+    static Read read;
+    byte *start = out;
+    Refusal r = read_text(text, length, &read);
+    if (r.number != 0) {
+        out = end_line(field(field(field(put(out, "refused"), r.number), r.first), r.second));
+        return out - start;
+    }
+    Plan p = whole(read.levels, read.columns, read.table, read.entries);
+    out = end_line(field(field(put(out, "plan"), p.count), p.columns));
+    for (long j = 1; j <= p.columns; j++) {
+        Fraction x = reduced(word(&p, j), (wide)p.count * p.count);
+        out = end_line(field(field(field(put(out, "word"), j), x.num), x.den));
+    }
+    out = end_line(field(put(out, "strength"), strength(&p)));
+    long size = resolution(&p);
+    if (size > p.columns)
+        out = end_line(put(out, "resolution none"));
+    else {
+        Fraction ratio = largest_ratio(&p, size);
+        out = end_line(field(put(out, "resolution"), size));
+        out = end_line(field(field(put(out, "ratio"), ratio.num), ratio.den));
+        out = end_line(field(put(out, "gr"), thousandths(size, ratio)));
+    }
+    if (p.count < 2)
+        out = end_line(put(out, "lose none"));
+    else
+        out = end_line(field(put(out, "lose"), advice(&p)));
+    return out - start;
+}

@@ -1,0 +1,25 @@
+/* An implementation of document 01, written from its definitions alone. It
+ * shares no code with the product and takes no short cut: sums over sets of
+ * columns of sums over ordered pairs of runs, counts of every combination,
+ * a search through all candidates. Slow, for small plans.
+ */
+#ifndef REFERENCE_H
+#define REFERENCE_H
+
+typedef unsigned char byte;
+
+typedef struct {
+    int number;
+    long first, second;
+} Refusal;
+
+/* Refusals 1 to 5; number 0 where there is none. */
+Refusal reference_check(const byte *levels, long columns, const byte *table, long entries);
+
+/* W_j, or the refusal number negated. */
+long reference_word(const byte *levels, long columns, const byte *table, long entries, unsigned long length);
+
+/* The listing of a text; the number of bytes put into `out`, which has room for 4096. */
+long reference_listing(const byte *text, long length, byte *out);
+
+#endif
