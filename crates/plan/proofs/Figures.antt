@@ -1,18 +1,34 @@
--- Document 01, "Worked figures": what the checks answer of each of these plans, from the definitions.
+-- Document 01, "Worked figures": what is answered of each of these plans and of a set of columns, from the definitions.
 use mathlib.Core.Path.{_≡_, refl}
-use mathlib.Core.List.{List, [], _∷_, map}
+use mathlib.Core.List.{List, [], _∷_, _++_, map}
 use Prim.Native.Nat.{ℕ}
 use lib.ListN.{replicate}
 use Rattle.rules.specs.declared.Refusal.{Refusal}
 use Rattle.rules.specs.Plan.{Plan, plan}
-use Rattle.rules.specs.Refusals.{refusal, planChecks, accepted, plain, placed, firstBadLevel, firstBadEntry}
+use Rattle.rules.specs.Refusals.{refusal, planChecks, firstBadLevel, firstBadEntry}
+use Rattle.sets.specs.Sets.{placeOf, placeAnswer}
+
+-- the check of a plan, and the place of a set of f of m columns
+data Question : Type 0 where
+  check : Plan → Question
+  place : (m f : ℕ) → List ℕ → Question
+
+-- a refusal's number and places
+abbrev numbers : Refusal → List ℕ
+numbers r = r .number ∷ r .first ∷ r .second ∷ []
+
+-- the answer, as numbers in a row: the refusal, then the place
+ask : Question → List ℕ
+unfolding placeOf placeAnswer
+ask (check p) = numbers (refusal (planChecks p))
+ask (place m f I) = let a = placeAnswer m f I in numbers (a .refused) ++ a .place ∷ []
 
 record Figure : Type 0 where
-  asked : Plan
-  answer : Refusal
+  question : Question
+  answer : List ℕ
 
-abbrev is : Plan → Refusal → Figure
-is p r = record { asked = p; answer = r }
+abbrev is : Question → List ℕ → Figure
+is q a = record { question = q; answer = a }
 
 -- m columns of the level s, one run of zeros
 abbrev wide : ℕ → ℕ → Plan
@@ -24,21 +40,22 @@ long n = plan (2 ∷ []) (replicate n 0)
 
 figures : List Figure
 figures =
-    is (wide 1 1) (placed 2 0 0)
-    ∷ is (wide 1 17) (placed 2 0 0)
-    ∷ is (wide 1 2) accepted
-    ∷ is (wide 1 16) accepted
-    ∷ is (wide 8 16) (plain 3)
-    ∷ is (wide 7 16) accepted
-    ∷ is (long 256) accepted
-    ∷ is (long 257) (plain 4)
+    is (check (wide 1 1)) (2 ∷ 0 ∷ 0 ∷ [])
+    ∷ is (check (wide 1 17)) (2 ∷ 0 ∷ 0 ∷ [])
+    ∷ is (check (wide 1 2)) (0 ∷ 0 ∷ 0 ∷ [])
+    ∷ is (check (wide 1 16)) (0 ∷ 0 ∷ 0 ∷ [])
+    ∷ is (check (wide 8 16)) (3 ∷ 0 ∷ 0 ∷ [])
+    ∷ is (check (wide 7 16)) (0 ∷ 0 ∷ 0 ∷ [])
+    ∷ is (check (long 256)) (0 ∷ 0 ∷ 0 ∷ [])
+    ∷ is (check (long 257)) (4 ∷ 0 ∷ 0 ∷ [])
+    ∷ is (place 5 3 (0 ∷ 3 ∷ 4 ∷ [])) (0 ∷ 0 ∷ 0 ∷ 5 ∷ [])
     -- not of the paper: the first bad entry is that of run 1, column 2; 1 ahead of 4, 2 ahead of 3, and the first bad level
-    ∷ is (plan (2 ∷ 3 ∷ 4 ∷ []) (1 ∷ 2 ∷ 3 ∷ 1 ∷ 2 ∷ 4 ∷ 2 ∷ 0 ∷ 0 ∷ [])) (placed 5 1 2)
-    ∷ is (plan [] []) (plain 1)
-    ∷ is (wide 25 2) (plain 1)
-    ∷ is (plan (16 ∷ 16 ∷ 16 ∷ 16 ∷ 16 ∷ 16 ∷ 16 ∷ 16 ∷ 0 ∷ 17 ∷ []) []) (placed 2 8 0)
+    ∷ is (check (plan (2 ∷ 3 ∷ 4 ∷ []) (1 ∷ 2 ∷ 3 ∷ 1 ∷ 2 ∷ 4 ∷ 2 ∷ 0 ∷ 0 ∷ []))) (5 ∷ 1 ∷ 2 ∷ [])
+    ∷ is (check (plan [] [])) (1 ∷ 0 ∷ 0 ∷ [])
+    ∷ is (check (wide 25 2)) (1 ∷ 0 ∷ 0 ∷ [])
+    ∷ is (check (plan (16 ∷ 16 ∷ 16 ∷ 16 ∷ 16 ∷ 16 ∷ 16 ∷ 16 ∷ 0 ∷ 17 ∷ []) [])) (2 ∷ 8 ∷ 0 ∷ [])
     ∷ []
 
-checks-figures : map (λ c. refusal (planChecks (c .asked))) figures ≡ map (λ c. c .answer) figures
-unfolding figures firstBadLevel firstBadEntry
-checks-figures = refl
+worked-figures : map (λ x. ask (x .question)) figures ≡ map (λ x. x .answer) figures
+unfolding ask figures firstBadLevel firstBadEntry
+worked-figures = refl

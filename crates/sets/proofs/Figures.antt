@@ -29,9 +29,8 @@ is q a = record { question = q; answer = a }
 
 abbrev figures : List Figure
 figures =
-    -- the paper's: m = 5, f = 3, set {0,3,4} has place 5
-    is (place 5 3 (0 ∷ 3 ∷ 4 ∷ [])) (0 ∷ 0 ∷ 0 ∷ 5 ∷ [])
-    ∷ is (set 5 3 5) (0 ∷ 0 ∷ 0 ∷ 0 ∷ 3 ∷ 4 ∷ 0 ∷ [])
+    -- the set at the place that plan's figures give
+    is (set 5 3 5) (0 ∷ 0 ∷ 0 ∷ 0 ∷ 3 ∷ 4 ∷ 0 ∷ [])
     -- the first and the last set
     ∷ is (place 5 3 (0 ∷ 1 ∷ 2 ∷ [])) (0 ∷ 0 ∷ 0 ∷ 0 ∷ [])
     ∷ is (place 5 3 (2 ∷ 3 ∷ 4 ∷ [])) (0 ∷ 0 ∷ 0 ∷ 9 ∷ [])
