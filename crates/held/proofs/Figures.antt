@@ -6,26 +6,23 @@ use lib.ListN.{take}
 use Rattle.rules.specs.Plan.{Plan, plan}
 use Rattle.rules.specs.Refusals.{firstBadLevel, firstBadEntry}
 use Rattle.words.specs.Words.{score, wordOf, word}
-use Rattle.words.specs.Answers.{wordList, wordsAnswer}
+use Rattle.words.specs.Answers.{wordList}
 use Rattle.held.specs.declared.Held.{Held}
 use Rattle.held.specs.Held.{standing, heldOf, openAnswer, Call, strikes, reinstates, callChecks, remarked, callAnswer}
 use Rattle.held.specs.History.{after}
-use Rattle.held.specs.Answers.{heldWords}
 
--- of the plan held after an opening and the calls: the words of length 1 and 2, the refusal number of one more call, or of a question
+-- of the plan held after an opening and the calls: the words of length 1 and 2, the refusal number of one more call
 data Question : Type 0 where
   words : Plan → List Call → Question
   refusedCall : Plan → List Call → Call → Question
-  refusedQuestion : Plan → List Call → Question
 
 abbrev heldAfter : Plan → List Call → Held
 heldAfter p cs = after (openAnswer p .held) cs
 
 ask : Question → List ℤ
-unfolding openAnswer firstBadLevel firstBadEntry heldOf standing callAnswer callChecks remarked wordList word wordOf score heldWords wordsAnswer
+unfolding openAnswer firstBadLevel firstBadEntry heldOf standing callAnswer callChecks remarked wordList word wordOf score
 ask (words p cs) = take 2 (heldAfter p cs .words)
 ask (refusedCall p cs c) = pos (callAnswer (heldAfter p cs) c .refused .number) ∷ []
-ask (refusedQuestion p cs) = pos (heldWords (heldAfter p cs) .answer .refused .number) ∷ []
 
 record Figure : Type 0 where
   question : Question
@@ -58,7 +55,6 @@ figures =
     ∷ is (refusedCall listed [] (reinstates 0)) (pos 9 ∷ [])
     ∷ is (refusedCall listed (strikes 0 ∷ []) (strikes 0)) (pos 9 ∷ [])
     ∷ is (refusedCall refused [] (strikes 0)) (pos 8 ∷ [])
-    ∷ is (refusedQuestion refused []) (pos 10 ∷ [])
     ∷ []
 
 held-figures : map (λ c. ask (c .question)) figures ≡ map (λ c. c .answer) figures

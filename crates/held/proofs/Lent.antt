@@ -1,7 +1,7 @@
 -- What a call on a held plan lends to the routines below: parts of its arrays, the standing runs, and how large their numbers are.
 use mathlib.Core.Path.{_≡_, refl, sym, _∙_, ap}
 use mathlib.Core.Bool.{Bool, true, false}
-use mathlib.Core.List.{List, [], _∷_, map}
+use mathlib.Core.List.{List, [], _∷_}
 use Prim.Native.Nat.{ℕ, _*_, _-_, _≤_, _<_, _^_}
 use native.Mathlib.Omega.{arith}
 use lib.IntN.{ℤ, pos, natAbs}
@@ -18,15 +18,10 @@ use Rattle.words.specs.Answers.{wordList, rowList, diagonalList}
 use Rattle.words.proofs.Totals.{by-length-row}
 use Rattle.words.proofs.OfPlan.{row-small, word-small, diagonal-small}
 use Rattle.words.proofs.Answered.{word-at}
-use Rattle.compare.specs.Compare.{over, patternOf}
-use Rattle.compare.specs.Given.{WordsOf}
-use Rattle.compare.proofs.OfPlan.{pattern-words, words-given}
-use Rattle.advice.specs.Given.{Standing as Runs}
 use Rattle.held.specs.declared.Held.{Held}
 use Rattle.held.specs.declared.inner.Standing.{Standing}
 use Rattle.held.specs.Held.{IsHeld, marksIn, planIn, standingIn, remarked}
 use Rattle.held.specs.Given.{standingOf, Changes, factorOf, changed}
-use Rattle.held.proofs.Standing.{rises}
 use Rattle.held.proofs.History.{words-standing}
 use Rattle.held.proofs.Sizes.{filled, sized, levels-sound}
 use Rattle.held.proofs.Update.{words-changed}
@@ -63,19 +58,6 @@ module _ {h : Held} (H : IsHeld h) {s : Standing} (e : s ≡ standingOf (marksIn
 
   pub lent-sound : Sound (planIn h) (take (s .count) (s .runs))
   lent-sound = rw lent-runs (sized H .sound)
-
-  -- in number order too
-  pub lent-standing : Runs (planIn h) (take (s .count) (s .runs))
-  lent-standing = rw lent-runs (record { sound = sized H .sound; rising = rises (marksIn h) })
-
-  -- their words, as a comparison takes them
-  pub words-lent : 0 < h .runs → WordsOf (s .count) (h .words)
-  words-lent n = rw (count-is, words-standing H) (words-given (planIn h) (standingIn h) (sized H .sound) (sized H .some-stand n))
-
-  pub pattern-lent : patternOf (planIn h) (standingIn h) ≡ map (over (s .count)) (take (h .columns) (h .words))
-  pattern-lent =
-      pattern-words (planIn h) (standingIn h) (sized H .sound)
-      ∙ rw (columns-in H, count-is, words-standing H)
 
   pub lent-some : 0 < h .runs → 1 ≤ length (take (s .count) (s .runs))
   lent-some n = rw lent-runs (sized H .some-stand n)

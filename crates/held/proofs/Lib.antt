@@ -7,8 +7,4 @@ pub mod Walk
 pub mod Update
 pub mod Lent
 pub mod Branches
-pub mod Rating
-pub mod Projected
-pub mod Seen
-pub mod Alike
 pub mod Figures

@@ -1,22 +1,17 @@
--- What a function may use of a held plan: its sizes, that its standing runs are sound, and how a question begins.
+-- What a function may use of a held plan: its sizes, and that its standing runs are sound.
 use mathlib.Core.Path.{_≡_, refl, sym, subst}
-use mathlib.Core.Bool.{Bool, true, false}
 use mathlib.Core.List.{List, [], _∷_, List·Memᴰ, List·Memᴰ·not-nil}
 use Prim.Native.Nat.{ℕ, _*_, _≤_, _<_}
 use native.Mathlib.Omega.{arith}
-use borrow.Author.Tests.{lt-ltb, le-ltb, ne-eqb}
-use lib.Dec.{eqb}
 use lib.ListN.{length, length-append, length-replicate}
 use Rattle.exact.specs.Lists.{filledTo}
 use Rattle.exact.proofs.Numbers.{length-from, mul-below}
 use Rattle.rules.specs.Plan.{Plan, plan, columns, runs, level, everyRun, lowestLevel}
-use Rattle.rules.specs.Refusals.{Check, refusal, plain, accepted, tooFew}
 use Rattle.plan.specs.Good.{Sound}
 use Rattle.plan.proofs.Sound.{run-mem, good-sound}
 use Rattle.words.proofs.OfPlan.{sound-run}
 use Rattle.held.specs.declared.Held.{Held}
 use Rattle.held.specs.Held.{standing, heldOf, IsHeld, none-held, held, marksIn, planIn, standingIn}
-use Rattle.held.specs.Answers.{ofStanding}
 use Rattle.held.proofs.Standing.{stands-below, standing-within}
 use Rattle.held.proofs.Marks.{marks-in, plan-in}
 
@@ -103,28 +98,3 @@ sized (held p marks G size left) = record {
   each = λ f h. rw (plan-in p G marks size) (sound-run p (everyRun p) (good-sound p G) f (run-mem p f h));
   some-stand = λ h. rw (marks-in p marks size) left;
 }
-
--- ---- how a question begins
-
-module _ {h : Held} (H : IsHeld h) (checks : List Check) where
-  -- on the empty plan it is refused by 10
-  pub none-refuses : h .runs ≡ 0 → refusal (ofStanding h checks) ≡ plain 10
-  unfolding standing
-  none-refuses e = rw e
-
-  -- with a run standing it has its own checks
-  pub some-asks : ¬ (h .runs ≡ 0) → refusal (ofStanding h checks) ≡ refusal checks
-  some-asks n = let l = sized H .some-stand (omega arith) in rw (ne-eqb (length (standingIn h)) 0 (λ e. omega arith))
-
--- ---- where two or more must stand
-
-module _ (h : Held) where
-  pub few-refused : length (standingIn h) < 2 → refusal (ofStanding h (tooFew 2 (length (standingIn h)) ∷ [])) ≡ plain 10
-  few-refused l = go (eqb (length (standingIn h)) 0) refl
-    where
-      go : (b : Bool) → eqb (length (standingIn h)) 0 ≡ b → refusal (ofStanding h (tooFew 2 (length (standingIn h)) ∷ [])) ≡ plain 10
-      go true e = rw e
-      go false e = rw (e, lt-ltb (length (standingIn h)) 2 l)
-
-  pub enough-accepted : 2 ≤ length (standingIn h) → refusal (ofStanding h (tooFew 2 (length (standingIn h)) ∷ [])) ≡ accepted
-  enough-accepted l = rw (ne-eqb (length (standingIn h)) 0 (λ e. omega arith), le-ltb (length (standingIn h)) 2 l)

@@ -12,7 +12,6 @@ use lib.ListN.{length, getD, set, take, replicate, length-append}
 use lib.Seq.{set-getD, take-suc, length-take-le}
 use Rattle.exact.specs.Lists.{from}
 use Rattle.exact.proofs.Tests.{true-is, false-is}
-use Rattle.advice.specs.Given.{Rising}
 use Rattle.held.specs.Held.{standingFrom, standing}
 
 pub clash : {X : Type 0} (b : Bool) → b ≡ true → b ≡ false → X
@@ -20,22 +19,11 @@ clash b p q = absurd (false-is b q (true-is b p))
 
 -- ---- the members are exactly the runs whose mark is set
 
-marked-from : (a : ℕ) (marks : List Bool) (f : ℕ) → List·Memᴰ f (standingFrom a marks) → (k : ℕ) × (f ≡ a + k) × (getD marks k false ≡ true)
+pub marked-from : (a : ℕ) (marks : List Bool) (f : ℕ) → List·Memᴰ f (standingFrom a marks) → (k : ℕ) × (f ≡ a + k) × (getD marks k false ≡ true)
 marked-from a [] f m = absurd (List·Memᴰ·not-nil m)
 marked-from a (true ∷ marks) f (List·Memᴰ·head e) = (0, omega arith, refl)
 marked-from a (true ∷ marks) f (List·Memᴰ·tail m) = let (k, e, d) = marked-from (suc a) marks f m in (suc k, omega arith, d)
 marked-from a (false ∷ marks) f m = let (k, e, d) = marked-from (suc a) marks f m in (suc k, omega arith, d)
-
--- so they are in number order
-rises-from : (a : ℕ) (marks : List Bool) → Rising (standingFrom a marks)
-rises-from a [] = tt
-rises-from a (true ∷ marks) =
-    (λ f m. let (k, e, d) = marked-from (suc a) marks f m in omega arith, rises-from (suc a) marks)
-rises-from a (false ∷ marks) = rises-from (suc a) marks
-
-pub rises : (marks : List Bool) → Rising (standing marks)
-unfolding standing
-rises marks = rises-from 0 marks
 
 pub marked : (marks : List Bool) (f : ℕ) → List·Memᴰ f (standing marks) → getD marks f false ≡ true
 unfolding standing

@@ -1,15 +1,13 @@
 -- What the routines behind a call are given, and what they make of it.
 use mathlib.Core.Path.{_≡_}
 use mathlib.Core.Bool.{Bool, true, false, not}
-use mathlib.Core.List.{List, _∷_, map}
+use mathlib.Core.List.{List, map}
 use Prim.Native.Nat.{ℕ, _<_}
 use lib.IntN.{ℤ, pos, negsuc, _+ℤ_, _*ℤ_}
 use lib.ListN.{length, getD}
 use Rattle.exact.specs.Lists.{from, filledTo}
-use Rattle.rules.specs.Plan.{columns, mostColumns, mostRuns}
-use Rattle.rules.specs.Refusals.{Check, badPlace}
-use Rattle.held.specs.Held.{IsHeld, standing, planIn}
-use Rattle.held.specs.Answers.{ofStanding}
+use Rattle.rules.specs.Plan.{mostColumns, mostRuns}
+use Rattle.held.specs.Held.{IsHeld, standing}
 use Rattle.held.specs.declared.Held.{Held}
 use Rattle.held.specs.declared.inner.Standing.{Standing}
 
@@ -34,15 +32,3 @@ changedAt factor words row diagonal k = getD words k (pos 0) +ℤ factor *ℤ ge
 
 unfoldable pub changed : ℤ → List ℤ → List ℤ → List ℤ → List ℤ
 changed factor words row diagonal = map (changedAt factor words row diagonal) (from 0 mostColumns)
-
--- two held plans with runs standing and the same number of columns
-pub record Comparable (h k : Held) : Type 0 where
-  pub held : IsHeld h
-  pub some : 0 < h .runs
-  pub other-held : IsHeld k
-  pub other-some : 0 < k .runs
-  pub columns-agree : h .columns ≡ k .columns
-
--- how a question that names a column begins
-abbrev pub ofStandingColumn : Held → ℕ → List Check → List Check
-ofStandingColumn h i checks = ofStanding h (badPlace (columns (planIn h)) i ∷ checks)

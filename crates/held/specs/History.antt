@@ -1,15 +1,13 @@
 -- Document 01, "The held plan": histories of strikes and reinstatements, refused calls among them.
 use mathlib.Core.Bool.{Bool, false, cond, not}
-use mathlib.Core.Path.{_≡_}
-use mathlib.Core.List.{List, [], _∷_, List·Memᴰ}
+use mathlib.Core.List.{List, [], _∷_}
 use mathlib.Core.Option.{Option, none, some}
-use Prim.Native.Nat.{ℕ, _<_}
+use Prim.Native.Nat.{ℕ}
 use lib.Dec.{eqb}
 use lib.ListN.{getD}
-use Rattle.rules.specs.Plan.{columns, entry}
 use Rattle.rules.specs.Refusals.{refuses}
 use Rattle.held.specs.declared.Held.{Held}
-use Rattle.held.specs.Held.{marksIn, planIn, standingIn, Call, runOf, stands, callAnswer}
+use Rattle.held.specs.Held.{Call, runOf, stands, callAnswer}
 
 abbrev pub isAccepted : Held → Call → Bool
 isAccepted h c = not (refuses (callAnswer h c .refused))
@@ -39,9 +37,3 @@ standsBy b (some c) = stands c
 
 abbrev pub markOf : Held → ℕ → Bool
 markOf h f = getD (h .marks) f false
-
--- two held plans that differ only in entries of struck runs
-pub record Alike (h k : Held) : Type 0 where
-  pub marks : marksIn h ≡ marksIn k
-  pub levels : planIn h .levels ≡ planIn k .levels
-  pub entries : (f : ℕ) → List·Memᴰ f (standingIn h) → (i : ℕ) → i < columns (planIn h) → entry (planIn h) f i ≡ entry (planIn k) f i

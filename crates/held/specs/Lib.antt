@@ -1,4 +1,3 @@
 pub mod Held
 pub mod History
-pub mod Answers
 pub mod Given

@@ -1,0 +1,7 @@
+pub mod Rises
+pub mod Asked
+pub mod Lent
+pub mod Rating
+pub mod Projected
+pub mod Seen
+pub mod Alike

@@ -1,0 +1,102 @@
+-- Document 01, "The held plan": every answer is that of the standing runs; the plan comes back as it was.
+use mathlib.Core.List.{List, [], _∷_}
+use Prim.Native.Nat.{ℕ, _+_}
+use lib.ListN.{length, replicate}
+use Rattle.exact.specs.Lists.{filledTo}
+use Rattle.rules.specs.Plan.{Plan, columns, level, entry, everyColumn}
+use Rattle.rules.specs.Refusals.{Check, refusal, unless, ofHeld, badNumber, tooFew}
+use Rattle.words.specs.Answers.{wordsAnswer, wordAnswer, rowSumsAnswer}
+use Rattle.counts.specs.Counts.{strengthAnswer}
+use Rattle.projections.specs.Projections.{Line, Rooms, absoluteTable, relativeTable, tableAnswer, tableRooms, setWordAnswer}
+use Rattle.resolution.specs.Resolution.{resolutionAnswer, generalizedAnswer}
+use Rattle.resolution.specs.Charts.{chartAnswer, figureAnswer}
+use Rattle.compare.specs.Compare.{compareAnswer}
+use Rattle.advice.specs.Advice.{advice, inTurn}
+use Rattle.held.specs.Held.{planIn, standingIn}
+use Rattle.held.specs.declared.Held.{Held}
+use Rattle.standing.specs.declared.HeldWords.{HeldWords}
+use Rattle.standing.specs.declared.HeldWord.{HeldWord}
+use Rattle.standing.specs.declared.HeldRowSums.{HeldRowSums}
+use Rattle.standing.specs.declared.HeldStrength.{HeldStrength}
+use Rattle.standing.specs.declared.HeldResolution.{HeldResolution}
+use Rattle.standing.specs.declared.HeldGeneralized.{HeldGeneralized}
+use Rattle.standing.specs.declared.HeldChart.{HeldChart}
+use Rattle.standing.specs.declared.HeldFigure.{HeldFigure}
+use Rattle.standing.specs.declared.HeldSetWord.{HeldSetWord}
+use Rattle.standing.specs.declared.HeldTable.{HeldTable}
+use Rattle.standing.specs.declared.HeldComparison.{HeldComparison}
+use Rattle.standing.specs.declared.AdviceAnswer.{AdviceAnswer}
+use Rattle.standing.specs.declared.HeldAdvice.{HeldAdvice}
+use Rattle.standing.specs.declared.TurnsAnswer.{TurnsAnswer}
+use Rattle.standing.specs.declared.HeldTurns.{HeldTurns}
+
+-- how a call that names no run begins: where none stands the answer is 10, ahead of every other check
+abbrev pub ofStanding : Held → List Check → List Check
+ofStanding h checks = ofHeld (standingIn h) checks
+
+unfoldable pub heldWords : Held → HeldWords
+heldWords h = record { held = h; answer = wordsAnswer (planIn h) (standingIn h) (ofStanding h) }
+
+unfoldable pub heldWord : Held → ℕ → HeldWord
+heldWord h j = record { held = h; answer = wordAnswer (planIn h) (standingIn h) (ofStanding h) j }
+
+unfoldable pub heldRowSums : Held → HeldRowSums
+heldRowSums h = record { held = h; answer = rowSumsAnswer (planIn h) (standingIn h) (ofStanding h) }
+
+unfoldable pub heldStrength : Held → HeldStrength
+heldStrength h = record { held = h; answer = strengthAnswer (planIn h) (standingIn h) (ofStanding h) }
+
+unfoldable pub heldResolution : Held → HeldResolution
+heldResolution h = record { held = h; answer = resolutionAnswer (planIn h) (standingIn h) (ofStanding h) }
+
+unfoldable pub heldGeneralized : Held → HeldGeneralized
+heldGeneralized h = record { held = h; answer = generalizedAnswer (planIn h) (standingIn h) (ofStanding h) }
+
+unfoldable pub heldChart : Held → HeldChart
+heldChart h = record { held = h; answer = chartAnswer (planIn h) (standingIn h) (ofStanding h) }
+
+unfoldable pub heldFigure : Held → ℕ → HeldFigure
+heldFigure h i = record { held = h; answer = figureAnswer (planIn h) (standingIn h) (ofStanding h) i }
+
+unfoldable pub heldSetWord : Held → ℕ → List ℕ → HeldSetWord
+heldSetWord h f I = record { held = h; answer = setWordAnswer (planIn h) (standingIn h) (ofStanding h) f I }
+
+-- ---- the tables, and the three rooms afterwards
+
+abbrev pub heldAbsolute : Held → ℕ → List Line
+heldAbsolute h f = absoluteTable (level (planIn h)) (entry (planIn h)) (standingIn h) (everyColumn (planIn h)) f
+
+abbrev pub heldRelative : Held → ℕ → List Line
+heldRelative h f = relativeTable (level (planIn h)) (entry (planIn h)) (standingIn h) (everyColumn (planIn h)) f
+
+unfoldable pub heldTable : Held → ℕ → List Line → Rooms → HeldTable
+heldTable h f lines rooms = record { held = h; answer = tableAnswer (ofStanding h) (columns (planIn h)) f lines rooms }
+
+abbrev pub heldRooms : Held → ℕ → List Line → Rooms → Rooms
+heldRooms h f lines rooms = tableRooms (ofStanding h) (columns (planIn h)) f lines rooms
+
+-- ---- the comparison of two held plans
+
+unfoldable pub heldComparison : Held → Held → HeldComparison
+heldComparison h k = record {
+  held = h;
+  other = k;
+  answer = compareAnswer (ofStanding h) (planIn h) (standingIn h) (ofStanding k) (planIn k) (standingIn k);
+}
+
+-- ---- advice: two or more must stand; for the best k, k from 1 to 3 and more than k
+
+abbrev pub adviceAnswer : Plan → List ℕ → (List Check → List Check) → AdviceAnswer
+adviceAnswer p rs start =
+    let r = refusal (start (tooFew 2 (length rs) ∷ [])) in record { refused = r; run = unless r 0 (advice p rs) }
+
+unfoldable pub heldAdvice : Held → HeldAdvice
+heldAdvice h = record { held = h; answer = adviceAnswer (planIn h) (standingIn h) (ofStanding h) }
+
+abbrev pub turnsAnswer : Plan → List ℕ → (List Check → List Check) → ℕ → TurnsAnswer
+turnsAnswer p rs start k =
+    let r = refusal (start (badNumber k ∷ tooFew (k + 1) (length rs) ∷ [])) in
+    record { refused = r; runs = unless r (replicate 3 0) (filledTo 3 0 (inTurn p k rs)) }
+
+unfoldable pub heldTurns : Held → ℕ → HeldTurns
+heldTurns h k = record { held = h; answer = turnsAnswer (planIn h) (standingIn h) (ofStanding h) k }

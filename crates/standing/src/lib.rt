@@ -1,0 +1,98 @@
+// Questions to a held plan: every answer of the library, over the runs that stand.
+use compare::Comparison;
+use counts::StrengthAnswer;
+use held::Held;
+use projections::SetWordAnswer;
+use projections::TableAnswer;
+use resolution::ChartAnswer;
+use resolution::FigureAnswer;
+use resolution::GeneralizedAnswer;
+use resolution::ResolutionAnswer;
+use rules::Refusal;
+use words::RowSumsAnswer;
+use words::WordAnswer;
+use words::WordsAnswer;
+
+mod measures;
+pub mod questions;
+pub mod ratios;
+pub mod tables;
+
+// What a question answers, of the standing runs, and the plan as it was.
+pub struct HeldWords {
+    pub held: Held,
+    pub answer: WordsAnswer,
+}
+
+pub struct HeldWord {
+    pub held: Held,
+    pub answer: WordAnswer,
+}
+
+pub struct HeldRowSums {
+    pub held: Held,
+    pub answer: RowSumsAnswer,
+}
+
+pub struct HeldStrength {
+    pub held: Held,
+    pub answer: StrengthAnswer,
+}
+
+pub struct HeldResolution {
+    pub held: Held,
+    pub answer: ResolutionAnswer,
+}
+
+pub struct HeldGeneralized {
+    pub held: Held,
+    pub answer: GeneralizedAnswer,
+}
+
+pub struct HeldChart {
+    pub held: Held,
+    pub answer: ChartAnswer,
+}
+
+pub struct HeldFigure {
+    pub held: Held,
+    pub answer: FigureAnswer,
+}
+
+pub struct HeldSetWord {
+    pub held: Held,
+    pub answer: SetWordAnswer,
+}
+
+pub struct HeldTable {
+    pub held: Held,
+    pub answer: TableAnswer,
+}
+
+pub struct HeldComparison {
+    pub held: Held,
+    pub other: Held,
+    pub answer: Comparison,
+}
+
+// The run advised for loss.
+pub struct AdviceAnswer {
+    pub refused: Refusal,
+    pub run: usize,
+}
+
+pub struct HeldAdvice {
+    pub held: Held,
+    pub answer: AdviceAnswer,
+}
+
+// The best to lose, in the order taken, zero in any place left over.
+pub struct TurnsAnswer {
+    pub refused: Refusal,
+    pub runs: [usize; 3],
+}
+
+pub struct HeldTurns {
+    pub held: Held,
+    pub answer: TurnsAnswer,
+}
