@@ -1,9 +1,6 @@
 pub mod Products
 pub mod SetWords
 pub mod Values
-pub mod Shifts
-pub mod Lines
-pub mod Walks
 pub mod Answers
-pub mod Tables
+pub mod Printed
 pub mod Figures

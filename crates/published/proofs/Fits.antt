@@ -12,8 +12,8 @@ use Rattle.rules.specs.Plan.{Plan, columns, runs, mostColumns, mostRuns}
 use Rattle.rules.specs.Refusals.{Check, refusal, ofPlan, planChecks, tooLong, malformed, badRoom}
 use Rattle.rules.proofs.Order.{passed-none, none-passed}
 use Rattle.plan.proofs.Checks.{passed-good}
-use Rattle.projections.specs.declared.TableAnswer.{TableAnswer}
-use Rattle.projections.specs.Projections.{Line, Rooms, shortest, tableRefusal, tableAnswer}
+use Rattle.frequencies.specs.declared.TableAnswer.{TableAnswer}
+use Rattle.frequencies.specs.Frequencies.{Line, Rooms, shortest, tableRefusal, tableAnswer}
 use Rattle.text.specs.declared.ReadAnswer.{ReadAnswer}
 use Rattle.text.specs.Text.{malformedLine, planOf}
 use Rattle.text.specs.Reader.{roomChecks, readRefusal, readAnswer}

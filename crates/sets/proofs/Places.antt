@@ -3,14 +3,14 @@ use mathlib.Core.Path.{_≡_, refl, sym, _∙_, ap, subst}
 use mathlib.Core.Bool.{Bool, true, false, cond}
 use mathlib.Core.Logic.{dite}
 use mathlib.Core.List.{List, [], _∷_, _++_, map, List·Memᴰ, List·Memᴰ·head, List·Memᴰ·tail, List·Memᴰ·not-nil}
-use Prim.Native.Nat.{ℕ, zero, suc, _+_, _-_, _<_}
+use Prim.Native.Nat.{ℕ, zero, suc, _+_, _-_, _≤_, _<_}
 use native.Mathlib.Decide.{decLt}
 use native.Mathlib.Omega.{arith}
 use borrow.Author.Tests.{lt-ltb, le-ltb, ne-eqb}
 use lib.Dec.{T, eqb, ltb, eqb→eq, eqb-refl}
-use lib.ListN.{length, getD, length-map, List·getD-append}
-use lib.Seq.{getD-append-add}
-use Rattle.exact.specs.Lists.{from, same}
+use lib.ListN.{length, getD, take, replicate, length-append, length-map, List·getD-append}
+use lib.Seq.{getD-append-add, take-at}
+use Rattle.exact.specs.Lists.{from, filledTo, same}
 use Rattle.exact.proofs.Numbers.{mem-from, map-places}
 use Rattle.exact.proofs.Tests.{both, join, is-true}
 use Rattle.rules.specs.Refusals.{isSet}
@@ -197,3 +197,10 @@ place-of-set m f k h = place-walk m (setAt m f k) (set-at-set m f k h .0) ∙ rw
 pub every-set : (m f : ℕ) → map (λ k. setAt m f k) (from 0 (binom m f)) ≡ setsOf m f
 unfolding setAt
 every-set m f = rw (← (many-sets f 0 m)) (map-places (setsOf m f) [])
+
+-- the set at a place, in the front of an array
+pub set-front : (m f k : ℕ) → k < binom m f → take f (filledTo 24 0 (setAt m f k)) ≡ setAt m f k
+set-front m f k h = take-at (setAt m f k) (replicate (24 - length (setAt m f k)) 0) f (set-at-set m f k h .1)
+
+pub set-held : (m f k : ℕ) → k < binom m f → f ≤ length (filledTo 24 0 (setAt m f k))
+set-held m f k h = omega (arith, length-append (setAt m f k) (replicate (24 - length (setAt m f k)) 0), set-at-set m f k h .1)

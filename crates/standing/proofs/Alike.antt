@@ -21,7 +21,8 @@ use Rattle.sets.proofs.Parts.{part-mem}
 use Rattle.words.specs.Words.{wordOf, word}
 use Rattle.words.specs.Answers.{byLength, zeros, wordList, rowList, rowsByRun, wordsAnswer, wordAnswer, rowSumsAnswer}
 use Rattle.counts.specs.Counts.{strength, strengthAnswer}
-use Rattle.projections.specs.Projections.{Line, Rooms, relativeOf, absoluteTable, relativeTable, tableAnswer, tableRooms, setWordAnswer}
+use Rattle.projections.specs.Projections.{relativeOf, setWordAnswer}
+use Rattle.frequencies.specs.Frequencies.{Line, Rooms, absoluteTable, relativeTable, tableAnswer, tableRooms}
 use Rattle.projections.specs.declared.SetWordAnswer.{SetWordAnswer}
 use Rattle.resolution.specs.Resolution.{greatest, resolution, largestRatio, resolutionAnswer, generalizedAnswer}
 use Rattle.resolution.specs.Charts.{chartOf, chartAnswer, columnRatio, figureAnswer}

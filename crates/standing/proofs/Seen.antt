@@ -19,7 +19,8 @@ use Rattle.words.specs.Words.{score, wordOf, word, rowSum}
 use Rattle.words.proofs.Laws.{row-pairs, pair-local, word-local}
 use Rattle.counts.specs.Counts.{combinations, shows, even, balanced, strength}
 use Rattle.counts.proofs.Numbered.{count-cong-in}
-use Rattle.projections.specs.Projections.{valueOf, relativeOf, tableOf, absoluteTable, relativeTable}
+use Rattle.projections.specs.Projections.{valueOf, relativeOf}
+use Rattle.frequencies.specs.Frequencies.{tableOf, absoluteTable, relativeTable}
 use Rattle.resolution.proofs.Walk.{keep-mem}
 use Rattle.resolution.specs.Resolution.{greatest, resolution, largestRatio}
 use Rattle.compare.specs.Compare.{over, A, pattern}

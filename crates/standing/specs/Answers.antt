@@ -7,7 +7,8 @@ use Rattle.rules.specs.Plan.{Plan, columns, level, entry, everyColumn}
 use Rattle.rules.specs.Refusals.{Check, refusal, unless, ofHeld, badNumber, tooFew}
 use Rattle.words.specs.Answers.{wordsAnswer, wordAnswer, rowSumsAnswer}
 use Rattle.counts.specs.Counts.{strengthAnswer}
-use Rattle.projections.specs.Projections.{Line, Rooms, absoluteTable, relativeTable, tableAnswer, tableRooms, setWordAnswer}
+use Rattle.projections.specs.Projections.{setWordAnswer}
+use Rattle.frequencies.specs.Frequencies.{Line, Rooms, absoluteTable, relativeTable, tableAnswer, tableRooms}
 use Rattle.resolution.specs.Resolution.{resolutionAnswer, generalizedAnswer}
 use Rattle.resolution.specs.Charts.{chartAnswer, figureAnswer}
 use Rattle.compare.specs.Compare.{compareAnswer}

@@ -1,9 +1,9 @@
 // Questions to a held plan: every answer of the library, over the runs that stand.
 use compare::Comparison;
 use counts::StrengthAnswer;
+use frequencies::TableAnswer;
 use held::Held;
 use projections::SetWordAnswer;
-use projections::TableAnswer;
 use resolution::ChartAnswer;
 use resolution::FigureAnswer;
 use resolution::GeneralizedAnswer;

@@ -1,10 +1,10 @@
 // Words of single sets of columns, and projection frequency tables, of the standing runs.
 use crate::HeldSetWord;
 use crate::HeldTable;
+use frequencies::TableAnswer;
 use held::Held;
 use held::inner::standing_runs;
 use projections::SetWordAnswer;
-use projections::TableAnswer;
 use rules::Refusal;
 ghost use mathlib.Core.Path.{_≡_};
 ghost use mathlib.Core.List.{[], _∷_};
@@ -12,7 +12,7 @@ ghost use Prim.Native.Nat.{_<_};
 ghost use Rattle.rules.specs.Plan.{columns, level, entry};
 ghost use Rattle.rules.specs.Refusals.{refusal, badSize};
 ghost use Rattle.words.specs.Words.{wordOf};
-ghost use Rattle.projections.specs.Projections.{rooms, tableIn, tableAnswer, tableRooms};
+ghost use Rattle.frequencies.specs.Frequencies.{rooms, tableIn, tableAnswer, tableRooms};
 ghost use Rattle.projections.specs.Given.{Projection, SizeOf};
 ghost use Rattle.held.specs.Held.{IsHeld, planIn, standingIn};
 ghost use Rattle.standing.specs.Answers.{ofStanding, heldSetWord, heldAbsolute, heldRelative, heldTable, heldRooms};
@@ -106,7 +106,7 @@ fn frequencies_of(
     let standing = standing_runs(held);
     let numbers = standing.runs;
     let count = standing.count;
-    projections::inner::frequencies(
+    frequencies::inner::frequencies(
         &levels[..columns],
         &entries[..size],
         &numbers[..count],

@@ -4,7 +4,7 @@ use mathlib.Core.List.{List}
 use Prim.Native.Nat.{ℕ}
 use lib.ListN.{replicate}
 use Rattle.rules.specs.Plan.{plan, level, entry, everyRun, everyColumn}
-use Rattle.projections.specs.Projections.{rooms, relativeTable}
+use Rattle.frequencies.specs.Frequencies.{rooms, relativeTable}
 use Rattle.published.proofs.Fits.{lines-fit}
 use Rattle.published.proofs.tables.relative.Statement.{statement}
 use Rattle.published.proofs.tables.relative.Tie as tie

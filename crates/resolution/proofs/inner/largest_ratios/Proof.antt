@@ -14,7 +14,7 @@ use Rattle.sets.specs.Sets.{binom, setAt}
 use Rattle.exact.specs.declared.fractions.Fraction.{Fraction}
 use Rattle.projections.specs.Given.{Projection}
 use Rattle.projections.specs.Projections.{relativeOf}
-use Rattle.projections.proofs.Walks.{set-front}
+use Rattle.sets.proofs.Places.{set-front}
 use Rattle.projections.proofs.Values.{value-short}
 use Rattle.resolution.specs.Resolution.{greater}
 use Rattle.resolution.specs.declared.inner.Ratios.{Ratios}

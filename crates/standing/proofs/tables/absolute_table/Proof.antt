@@ -1,5 +1,5 @@
 -- `held::tables::absolute_table` meets its contract: the table that is asked for is this one.
-use Rattle.projections.specs.Projections.{tableIn, absoluteTable}
+use Rattle.frequencies.specs.Frequencies.{tableIn, absoluteTable}
 use borrow.Author.Needs.{needs}
 use Rattle.standing.proofs.tables.absolute_table.Statement.{statement}
 use Rattle.standing.proofs.tables.absolute_table.Tie as tie

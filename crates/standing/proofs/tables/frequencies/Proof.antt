@@ -1,7 +1,7 @@
 -- `held::tables::frequencies` meets its contract: a refusal is 10 or that of the size, and then of the rooms alone.
 use mathlib.Core.List.{List}
 use native.Mathlib.Omega.{arith}
-use Rattle.projections.specs.Projections.{Line, Rooms, rooms, tableIn}
+use Rattle.frequencies.specs.Frequencies.{Line, Rooms, rooms, tableIn}
 use Rattle.held.specs.Held.{planIn, standingIn}
 use Rattle.standing.proofs.Projected.{some-runs, size-given, table-refused, table-passed}
 use borrow.Author.Needs.{needs}

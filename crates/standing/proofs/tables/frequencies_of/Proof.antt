@@ -7,7 +7,7 @@ use Rattle.standing.proofs.tables.frequencies_of.Tie as tie
 use Rattle.standing.proofs.tables.frequencies_of.Reads as reads
 use Rattle.standing.proofs.tables.frequencies_of.Lts as lts
 use Rattle.held.proofs.inner.standing_runs.Reads as standing-runs-reads
-use Rattle.projections.proofs.inner.frequencies.Reads as frequencies-reads
+use Rattle.frequencies.proofs.inner.frequencies.Reads as frequencies-reads
 
 -- src/tables.rt:100:16
 mul-size : tie.Need-mul-size

@@ -1,5 +1,5 @@
 -- `held::tables::relative_table` meets its contract: the table that is asked for is this one.
-use Rattle.projections.specs.Projections.{tableIn, relativeTable}
+use Rattle.frequencies.specs.Frequencies.{tableIn, relativeTable}
 use borrow.Author.Needs.{needs}
 use Rattle.standing.proofs.tables.relative_table.Statement.{statement}
 use Rattle.standing.proofs.tables.relative_table.Tie as tie

@@ -1,0 +1,6 @@
+pub mod Tables
+pub mod Shifts
+pub mod Lines
+pub mod Walks
+pub mod Answers
+pub mod Figures

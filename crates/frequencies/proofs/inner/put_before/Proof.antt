@@ -1,0 +1,84 @@
+-- `projections::inner::put_before` meets its contract: from the end down, what stands from k on has moved up by one.
+use mathlib.Core.Path.{_≡_, refl}
+use Prim.Native.Nat.{_≤_}
+use native.Mathlib.Omega.{arith}
+use lib.ListN.{length, length-set}
+use Rattle.frequencies.proofs.Shifts.{moved, moved-none, moved-turn, moved-put}
+use Rattle.frequencies.proofs.inner.put_before.Statement.{statement}
+use Rattle.frequencies.proofs.inner.put_before.Tie as tie
+
+abbrev Inv-loop : tie.InvT-loop
+Inv-loop room₀ used at x k₀ room k = (at ≤ k) × (k ≤ used) × (length room ≡ length room₀) × (room ≡ moved room₀ used k)
+
+abbrev μ-loop : tie.MeasureT-loop
+μ-loop room₀ used at x k₀ room k = k
+
+loop-holds : tie.Need-loop-holds Inv-loop μ-loop
+loop-holds c = (omega arith, omega arith, refl, moved-none 0 (c .args .room .now) (c .args .used) (omega arith))
+
+sub-room : tie.Need-sub-room Inv-loop μ-loop
+sub-room c = omega arith
+
+mul-room : tie.Need-mul-room Inv-loop μ-loop
+mul-room c = omega arith
+
+slice-read-room : tie.Need-slice-read-room Inv-loop μ-loop
+slice-read-room c = omega arith
+
+mul-room-2 : tie.Need-mul-room-2 Inv-loop μ-loop
+mul-room-2 c = omega arith
+
+slice-write-room : tie.Need-slice-write-room Inv-loop μ-loop
+slice-write-room c = omega arith
+
+sub-k : tie.Need-sub-k Inv-loop μ-loop
+sub-k c = omega arith
+
+loop-less : tie.Need-loop-less Inv-loop μ-loop
+loop-less c = omega arith
+
+loop-again : tie.Need-loop-again Inv-loop μ-loop
+loop-again c =
+    let d = c .before .before in
+    let s = d .before in (
+      omega arith,
+      omega arith,
+      simp length-set (d .loop .inv .2),
+      rw (d .loop .inv .3) (moved-turn 0 (s .args .room .now) (s .args .used) (omega arith) (d .loop .k) (omega arith) (omega arith)),
+    )
+
+mul-room-3 : tie.Need-mul-room-3 Inv-loop μ-loop
+mul-room-3 c = omega arith
+
+slice-write-room-2 : tie.Need-slice-write-room-2 Inv-loop μ-loop
+slice-write-room-2 c = omega arith
+
+same-length : tie.Need-same-length Inv-loop μ-loop
+same-length c = simp length-set (c .before .loop .inv .2)
+
+returns : tie.Need-returns Inv-loop μ-loop
+returns c =
+    let d = c .before in
+    let s = d .before in
+    let z : d .loop .k ≡ s .args .at = omega arith in
+    rw (d .loop .inv .3, z) (moved-put 0 (s .args .room .now) (s .args .used) (omega arith) (s .args .at) (s .args .x) (omega arith))
+
+pub put-before-spec : {M : Type 1} → statement M
+put-before-spec =
+    tie.close
+    (tie.spec
+    Inv-loop
+    μ-loop
+    loop-holds
+    sub-room
+    mul-room
+    slice-read-room
+    mul-room-2
+    slice-write-room
+    sub-k
+    loop-less
+    loop-again
+    mul-room-3
+    slice-write-room-2
+    same-length
+    returns)
