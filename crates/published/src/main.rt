@@ -1,10 +1,13 @@
-// What the library says of the arrays that the sources print: a plan text of data/ for each argument.
+// What the library says of the arrays of the sources: a plan text of data/ for each argument. Columns are counted from 1 here;
+// docs/PUBLISHED.md has the tables one by one, tests/published compares them.
 //
-// l18 is 003's Table 4 (compare 000, Tables 2 and 4, third rows). Counted from 1, l18-345, l18-236 and l18-245 are its columns
-// 3, 4, 5, then 2, 3, 6, then 2, 4, 5 (003, Example 5); l18-without-2 and l18-without-4 lack one column (003, Example 8; 000, Table 9,
-// rows 1 and 2). oa32 is 000's Table 6 (compare its Table 7); oa32-1 to oa32-3 are the selections of its Table 8. oa12 stands in
-// 002, section 4.1. 002 names the array pb12 (section 4.2) and does not print it: this is the cyclic one.
-// A misprint: row 3 of 000's Table 8 has 38 sets of value zero, so that it adds to 55 of the 56 sets. There are 39.
+// l18 is 003's Table 4 (000, Tables 2 and 4, third rows). l18-345, l18-236 and l18-245 are three of its columns (003, Example 5);
+// l18-without-2, l18-without-4 and l18-without-8 lack one (003, Example 8; 000, Table 9); l18-1248 has four (002, Table 4).
+// oa18-first and oa18-second belong to 000's Tables 2 and 4, oa18-partial is 003's Table 1 with its misprint mended.
+// oa16-regular and oa16-nonregular belong to 000's Table 3, oa16-mixed to 002's Table 5, l36 to 000's Table 5.
+// oa32 is 000's Table 6 (and 7); oa32-1 to oa32-3 are the selections of its Table 8. oa32-design1, oa32-design3 and oa32-design9
+// are 003's Table 7, oa8 its Table 2, oa9 its Example 1. oa12 stands in 002, section 4.1; pb12 is the cyclic one (002, section 4.2).
+// Where a source names an array and does not print it, docs/PUBLISHED.md says how this one was made.
 use figures::columns;
 use figures::generalized;
 use lines::put;
