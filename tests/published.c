@@ -12,6 +12,7 @@ int main(int count, char **arguments)
     if (count > 1)
         plans_stand_in(arguments[1]);
     source_000();
+    source_000_choices();
     source_002();
     source_003();
     printf("published figures that differ: %ld\n", differences());

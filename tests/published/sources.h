@@ -5,6 +5,7 @@
 #include "triples.h"
 
 void source_000(void);
+void source_000_choices(void);
 void source_002(void);
 void source_003(void);
 

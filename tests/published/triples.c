@@ -74,12 +74,45 @@ void compare_lines(int kind, const PrintedLine *lines, long line_count)
     must_be("sets of three columns", count, sets);
 }
 
-Fraction relative_sum(void)
+static int within(long columns, const long *set)
+{
+    long bits = 1L << set[0] | 1L << set[1] | 1L << set[2];
+    return (columns & bits) == bits;
+}
+
+long word_within(long columns)
+{
+    long sum = 0;
+    for (long k = 0; k < count; k++)
+        sum += within(columns, triples[k]) ? words[k] : 0;
+    return sum;
+}
+
+static long shares(long triple)
+{
+    return words[triple] * (SHARES / (smallest_level(triples[triple]) - 1));
+}
+
+Fraction relative_sum_within(long columns)
 {
     Fraction sum = { 0, SHARES * looked_at->runs * looked_at->runs };
     for (long k = 0; k < count; k++)
-        sum.num += words[k] * (SHARES / (smallest_level(triples[k]) - 1));
+        sum.num += within(columns, triples[k]) ? shares(k) : 0;
     return sum;
+}
+
+Fraction largest_within(long columns)
+{
+    Fraction largest = { 0, SHARES * looked_at->runs * looked_at->runs };
+    for (long k = 0; k < count; k++)
+        if (within(columns, triples[k]) && shares(k) > largest.num)
+            largest.num = shares(k);
+    return largest;
+}
+
+Fraction relative_sum(void)
+{
+    return relative_sum_within(-1);
 }
 
 Fraction factor_ratio(long column)

@@ -28,6 +28,11 @@ void compare_lines(int kind, const PrintedLine *lines, long count);
 /* rA_3: the sum of the relative values. */
 Fraction relative_sum(void);
 
+/* Of a choice of columns, a bit for each: W_3, rA_3 and the largest relative value. */
+long word_within(long columns);
+Fraction relative_sum_within(long columns);
+Fraction largest_within(long columns);
+
 /* The largest word of the sets that hold this column, over its level less 1 (003, Definition 5). */
 Fraction factor_ratio(long column);
 
