@@ -41,27 +41,27 @@ static const long table2[RUNS][RUNS + 1] = {
     { 2, 2, 2, 2, -2, 2, 2, -2, 2, -2, -2, 10, 22 },
 };
 
-/* The scaled word of f alone is its diagonal entry; that of f and g together has both diagonal entries and W_3(f, g) twice. */
-static long pair_sum(const Plan *array, long f, long g)
+/* W_j(f, g). The scaled word of f alone is W_j(f, f); that of f and g together has W_j(f, f), W_j(g, g), which is the same number,
+ * and W_j(f, g) twice. */
+static long pair_sum(const Plan *array, long f, long g, long length)
 {
-    Plan pair = *array;
-    pair.runs = 1;
-    for (long i = 0; i < COLUMNS; i++)
-        pair.table[i] = array->table[f * COLUMNS + i];
-    long diagonal = scaled_word(&pair, 3);
+    Plan pair = { COLUMNS, 1, { 2, 2, 2, 2, 2 }, { 0 } };
+    long one = scaled_word(&pair, length);
     if (f == g)
-        return diagonal;
+        return one;
     pair.runs = 2;
-    for (long i = 0; i < COLUMNS; i++)
+    for (long i = 0; i < COLUMNS; i++) {
+        pair.table[i] = array->table[f * COLUMNS + i];
         pair.table[COLUMNS + i] = array->table[g * COLUMNS + i];
-    return (scaled_word(&pair, 3) - 2 * diagonal) / 2;
+    }
+    return (scaled_word(&pair, length) - 2 * one) / 2;
 }
 
 static void pairs_of_runs(const Plan *array)
 {
     table_begins("002 Table 2");
     for (long k = 0; k < RUNS * RUNS; k++)
-        same_number("an entry of W_3", pair_sum(array, k / RUNS, k % RUNS), table2[k / RUNS][k % RUNS]);
+        same_number("an entry of W_3", pair_sum(array, k / RUNS, k % RUNS, 3), table2[k / RUNS][k % RUNS]);
     for (long f = 0; f < RUNS; f++) {
         Plan rest = without(array, &f, 1);
         same_number("w_{3,f}", scaled_word(array, 3) - scaled_word(&rest, 3), table2[f][RUNS]);
@@ -128,6 +128,41 @@ static void section_4_1(const Plan *array)
     same_number("fractions with A_3 = 1.140", with_third_word(array, 1140), 10);
     same_number("fractions with A_3 = 1.405", with_third_word(array, 1405), 2);
     run_after_run(array);
+    table_ends();
+}
+
+/* ---- two formulas */
+
+/* Equation (11), for f_1 and A_3: the last sum, over g other than f, has to be taken twice, for (f, g) and for (g, f), as equation (13)
+ * does. */
+static void equation_11(const Plan *array)
+{
+    static const long f1 = 0;
+    Plan rest = without(array, &f1, 1);
+    long alone = scaled_word(&rest, 3) + pair_sum(array, f1, f1, 3), others = 0;
+    for (long g = 1; g < RUNS; g++)
+        others += pair_sum(array, f1, g, 3);
+    misprinted_number("n² A_3 by (11)", scaled_word(array, 3), alone + others, alone + 2 * others);
+}
+
+/* Equation (16), for W_3(f_1, f_1): W_j is W_1 W_(j-1) - (m - j + 2) W_(j-2), divided by j. The paper has a factor j - 1 more and divides
+ * by the factorial of j: its proof takes the sum over different i_2 to i_j, which has each set (j - 1)! times, for W_(j-1). */
+static void equation_16(const Plan *array)
+{
+    long first = pair_sum(array, 0, 0, 1), second = pair_sum(array, 0, 0, 2), third = pair_sum(array, 0, 0, 3);
+    misprinted_number("6 W_3(f_1, f_1) by (16)", 6 * third, first * second - 2 * 4 * first, 2 * (first * second - 4 * first));
+    for (long k = 0; k < RUNS * RUNS * 3; k++) {
+        long f = k / 3 / RUNS, g = k / 3 % RUNS, j = k % 3 + 3;
+        long longer = pair_sum(array, f, g, 1) * pair_sum(array, f, g, j - 1);
+        must_be("(16) mended", j * pair_sum(array, f, g, j), longer - (COLUMNS - j + 2) * pair_sum(array, f, g, j - 2));
+    }
+}
+
+static void formulas(const Plan *array)
+{
+    table_begins("002 equations 11 and 16");
+    equation_11(array);
+    equation_16(array);
     table_ends();
 }
 
@@ -256,6 +291,7 @@ void source_002(void)
     section_4_1(&array);
     one_run_removed(&array);
     pairs_of_runs(&array);
+    formulas(&array);
     table_3();
     table_4();
     table_5();
