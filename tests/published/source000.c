@@ -92,8 +92,11 @@ static void table_5_first(void)
     look_at_triples(&array);
     compare_lines(ABSOLUTE, absolute, 7);
     compare_lines(RELATIVE, relative, 8);
-    same_decimal("A_3", word(&array, 3), 194, 0);
-    misprinted_decimal("rA_3", relative_sum(), 184, 172, 0);
+    Fraction third = word(&array, 3), sum = relative_sum();
+    same_decimal("A_3", third, 194, 0);
+    must_be("A_3 is 583/3", 3 * third.num, 583 * third.den);
+    misprinted_decimal("rA_3", sum, 184, 172, 0);
+    must_be("rA_3 is 517/3", 3 * sum.num, 517 * sum.den);
     Listing said = listing(&array);
     same_resolution("GR", said.resolution, said.ratio, 3.1835, 4);
 }
