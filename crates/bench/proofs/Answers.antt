@@ -1,0 +1,117 @@
+-- What the exports hand over fits: a refusal's number is at most 14, a table has no more lines than its rooms, and thousandths are few.
+use mathlib.Core.Path.{_≡_, refl, sym, _∙_, ap}
+use mathlib.Core.Bool.{Bool, true, false, cond}
+use mathlib.Core.List.{List, [], _∷_, List·Memᴰ, List·Memᴰ·head, List·Memᴰ·tail, Memᴰ·append-left, Memᴰ·append-right}
+use Prim.Native.Nat.{ℕ, zero, suc, _≤_, _<_, _^_}
+use native.Mathlib.Omega.{arith}
+use borrow.Author.Tests.{eqb-true, not-false, ltb-false}
+use lib.Dec.{T, eqb}
+use lib.ListN.{length}
+use Rattle.exact.proofs.Numbers.{length-from}
+use Rattle.rules.specs.Plan.{Plan, columns, level, entry, everyRun, everyColumn}
+use Rattle.rules.specs.Refusals.{Check, refusal, refuses, planChecks, ofPlan, badRoom, badLength}
+use Rattle.rules.proofs.Order.{known, number-most, passed-none, none-passed}
+use Rattle.plan.proofs.Checks.{passed-good}
+use Rattle.words.specs.Answers.{wordAnswer}
+use Rattle.frequencies.specs.declared.TableAnswer.{TableAnswer}
+use Rattle.frequencies.specs.Frequencies.{Line, Rooms, shortest, absoluteTable, relativeTable, tableIn, tableRefusal, tableAnswer}
+use Rattle.resolution.specs.declared.GeneralizedAnswer.{GeneralizedAnswer}
+use Rattle.resolution.specs.Resolution.{resolutionIn, ratioIn, ratioChecksIn, thousandthsOf, generalizedAnswer}
+use Rattle.resolution.proofs.Resolved.{resolution-is}
+use Rattle.held.specs.declared.Held.{Held}
+use Rattle.held.specs.declared.HeldAnswer.{HeldAnswer}
+use Rattle.standing.specs.declared.HeldWord.{HeldWord}
+use Rattle.held.specs.Held.{IsHeld, planIn, standingIn, openAnswer, strikes, reinstates}
+use Rattle.held.specs.History.{isAccepted}
+use Rattle.standing.specs.Answers.{ofStanding, heldWord}
+use Rattle.held.proofs.History.{call-held, undo}
+use Rattle.bench.specs.Exports.{round, rounds}
+
+-- no refusal: no check of the call fails
+passes : (checks : List Check) → T (known checks) → refuses (refusal checks) ≡ false → (c : Check) → List·Memᴰ c checks → c .fails ≡ false
+passes checks k q = passed-none checks k refl (eqb-true (refusal checks .number) 0 (not-false _ q))
+
+-- ---- strikes
+
+-- where run 0 can be struck a round gives the plan back, so that the number of rounds is not seen in the answer
+pub rounds-undone : {h : Held} → IsHeld h → isAccepted h (strikes 0) ≡ true → (k : ℕ) → rounds h k ≡ h
+rounds-undone H a zero = refl
+rounds-undone H a (suc k) = ap round (rounds-undone H a k) ∙ ap (λ (x : HeldAnswer). x .held) (undo H (strikes 0) a)
+
+pub rounds-held : {h : Held} → IsHeld h → (k : ℕ) → IsHeld (rounds h k)
+rounds-held H zero = H
+rounds-held H (suc k) = call-held (call-held (rounds-held H k) (strikes 0)) (reinstates 0)
+
+pub open-number : (p : Plan) {a : HeldAnswer} → a ≡ openAnswer p → a .refused .number ≤ 14
+unfolding openAnswer
+open-number p e = rw e (number-most (planChecks p) tt)
+
+pub word-number : (h : Held) (j : ℕ) {a : HeldWord} → a ≡ heldWord h j → a .answer .refused .number ≤ 14
+unfolding heldWord wordAnswer
+word-number h j e = rw e (go (eqb (length (standingIn h)) 0) refl)
+  where
+    own : List Check
+    own = badLength (columns (planIn h)) j ∷ []
+
+    go : (b : Bool) → eqb (length (standingIn h)) 0 ≡ b → refusal (ofStanding h own) .number ≤ 14
+    go true q = rw q (omega arith)
+    go false q = rw q (number-most own tt)
+
+-- ---- a table
+
+module _ (p : Plan) (f : ℕ) (ls : List Line) (R : Rooms) {a : TableAnswer} (e : a ≡ tableAnswer (ofPlan p) (columns p) f ls R) where
+  pub table-number : a .refused .number ≤ 14
+  unfolding tableAnswer
+  table-number = rw e (number-most (tableRefusal (ofPlan p) (columns p) f ls R) tt)
+
+  pub lines-within : a .lines ≤ length (R .nums)
+  unfolding tableAnswer
+  lines-within = rw e (go (refuses (refusal (tableRefusal (ofPlan p) (columns p) f ls R))) refl)
+    where
+      room : List·Memᴰ (badRoom (length ls) (shortest R)) (tableRefusal (ofPlan p) (columns p) f ls R)
+      room = Memᴰ·append-right (planChecks p) (List·Memᴰ·tail (List·Memᴰ·head refl))
+
+      go : (b : Bool) → refuses (refusal (tableRefusal (ofPlan p) (columns p) f ls R)) ≡ b → cond b 0 (length ls) ≤ length (R .nums)
+      go true q = omega arith
+      go false q =
+          let fits = ltb-false (shortest R) (length ls) (passes (tableRefusal (ofPlan p) (columns p) f ls R) tt q _ room) in
+          omega arith
+
+-- the table that is asked for
+module _ (p : Plan) (f : ℕ) {b : Bool} where
+  pub relative-in : b ≡ true → tableIn b p (everyRun p) f ≡ relativeTable (level p) (entry p) (everyRun p) (everyColumn p) f
+  unfolding tableIn relativeTable
+  relative-in e = rw e
+
+  pub absolute-in : b ≡ false → tableIn b p (everyRun p) f ≡ absoluteTable (level p) (entry p) (everyRun p) (everyColumn p) f
+  unfolding tableIn absoluteTable
+  absolute-in e = rw e
+
+-- ---- generalized resolution
+
+module _ (p : Plan) {a : GeneralizedAnswer} (e : a ≡ generalizedAnswer p (everyRun p) (ofPlan p)) where
+  pub ratio-number : a .refused .number ≤ 14
+  unfolding generalizedAnswer
+  ratio-number = rw e (number-most (ofPlan p (ratioChecksIn p (everyRun p))) tt)
+
+  pub thousandths-small : a .thousandths < 2 ^ 63
+  unfolding generalizedAnswer
+  thousandths-small = rw e (go (refuses (refusal (ofPlan p own))) refl)
+    where
+      own : List Check
+      own = ratioChecksIn p (everyRun p)
+
+      R : ℕ
+      R = resolutionIn p (everyRun p)
+
+      go : (b : Bool) → refuses (refusal (ofPlan p own)) ≡ b → cond b 0 (thousandthsOf R (ratioIn p (everyRun p))) < 2 ^ 63
+      go true q = omega arith
+      go false q =
+          let passed = none-passed (planChecks p) tt (λ c m. passes (ofPlan p own) tt q c (Memᴰ·append-left own m)) in
+          let good = passed-good p (sym passed) refl in
+          omega (
+            arith,
+            good .columns-high,
+            length-from 0 (columns p),
+            resolution-is (level p) (entry p) (everyRun p) (everyColumn p) .high,
+          )

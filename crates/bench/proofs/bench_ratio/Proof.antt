@@ -1,0 +1,32 @@
+-- `bench::bench_ratio` meets its contract: thousandths are few, so that they fit.
+use mathlib.Core.Path.{_∙_}
+use Rattle.exact.proofs.Bits.{of}
+use Rattle.rules.specs.Plan.{Plan, plan}
+use Rattle.bench.specs.Exports.{ratioNumber}
+use Rattle.bench.proofs.Answers.{ratio-number, thousandths-small}
+use borrow.Author.Needs.{needs}
+use Rattle.bench.proofs.bench_ratio.Statement.{statement}
+use Rattle.bench.proofs.bench_ratio.Tie as tie
+
+generalized-requires : tie.Need-generalized-requires
+generalized-requires c κs = search needs
+
+abbrev given : tie.After-generalized → Plan
+given k = plan (k .before .before .before .args .levels .now) (k .before .before .before .args .table .now)
+
+of-u64-requires : tie.Need-of-u64-requires
+of-u64-requires c κs = thousandths-small (given c) (c .generalized .ensures)
+
+number-of-requires : tie.Need-number-of-requires
+number-of-requires c κs = ratio-number (given (c .before)) (c .before .generalized .ensures)
+
+returns : tie.Need-returns
+unfolding ratioNumber
+returns c =
+    let u = c .before .of-u64 in
+    of (c .number-of .result) (c .number-of .ok) ∙ c .number-of .ensures
+    ∙ rw (of (u .result) (u .ok), u .ensures, c .before .before .generalized .ensures)
+
+pub bench-ratio-spec : {M : Type 1} → statement M
+bench-ratio-spec =
+    tie.close (tie.spec generalized-requires of-u64-requires number-of-requires returns)

@@ -1,0 +1,33 @@
+-- `bench::number_of` meets its contract: a refusal number is small, so that zero less it fits.
+use mathlib.Core.Path.{sym, _∙_, ap}
+use lib.IntN.{pos, negℤ, _-ℤ_}
+use Rattle.exact.proofs.Bits.{of, back}
+use Rattle.rules.proofs.Ranges.{unless-refused, unless-accepted}
+use Rattle.planner.proofs.Answers.{less, less-small}
+use borrow.Author.Needs.{needs}
+use Rattle.bench.proofs.number_of.Statement.{statement}
+use Rattle.bench.proofs.number_of.Tie as tie
+
+of-u64-requires : tie.Need-of-u64-requires
+of-u64-requires c κs = search needs
+
+sub-requires : tie.Need-sub-requires
+sub-requires c κs =
+    let s = c .before .before in
+    rw (of (c .of-u64 .result) (c .of-u64 .ok), c .of-u64 .ensures) (less-small (s .args .refused .number) (s .pre))
+
+returns : tie.Need-returns
+returns c =
+    let u = c .before .of-u64 in
+    let a = c .before .before .before .args in
+    let n = a .refused .number in
+    of (c .sub .result) (c .sub .ok) ∙ c .sub .ensures ∙ ap (λ z. pos 0 -ℤ z) (of (u .result) (u .ok) ∙ u .ensures) ∙ less n
+    ∙ sym (unless-refused (a .refused) (negℤ (pos n)) (a .value) (c .before .before .if1 .taken))
+
+returns-2 : tie.Need-returns-2
+returns-2 c =
+    let a = c .before .args in
+    back (c .before .fits .value) ∙ sym (unless-accepted (a .refused) (negℤ (pos (a .refused .number))) (a .value) (c .if1 .left))
+
+pub number-of-spec : {M : Type 1} → statement M
+number-of-spec = tie.close (tie.spec of-u64-requires sub-requires returns returns-2)

@@ -1,0 +1,41 @@
+-- What the exports for the benchmark and the tests answer: a number, or a refusal's number negated.
+use mathlib.Core.Bool.{Bool}
+use Prim.Native.Nat.{ℕ, zero, suc}
+use lib.IntN.{ℤ, pos, negℤ}
+use Rattle.rules.specs.Plan.{Plan, columns, everyRun}
+use Rattle.rules.specs.Refusals.{unless, ofPlan}
+use Rattle.rules.specs.declared.Refusal.{Refusal}
+use Rattle.frequencies.specs.Frequencies.{Rooms, tableIn, tableAnswer}
+use Rattle.resolution.specs.Resolution.{generalizedAnswer}
+use Rattle.held.specs.declared.Held.{Held}
+use Rattle.held.specs.Held.{openAnswer, strikes, reinstates, callAnswer}
+use Rattle.standing.specs.Answers.{heldWord}
+
+abbrev pub numberOf : Refusal → ℤ → ℤ
+numberOf r value = unless r (negℤ (pos (r .number))) value
+
+-- a round: run 0 is struck and reinstated
+abbrev pub round : Held → Held
+round h = callAnswer (callAnswer h (strikes 0) .held) (reinstates 0) .held
+
+abbrev pub rounds : Held → ℕ → Held
+rounds h zero = h
+rounds h (suc k) = round (rounds h k)
+
+-- the word of length j that a plan holds when k rounds have passed and run 0 is struck once more
+unfoldable pub strikesNumber : Plan → ℕ → ℕ → ℤ
+strikesNumber p j k =
+    let opened = openAnswer p in
+    let word = heldWord (callAnswer (rounds (opened .held) k) (strikes 0) .held) j .answer in
+    numberOf (opened .refused) (numberOf (word .refused) (word .word))
+
+-- the number of lines of the table for size f
+unfoldable pub tableNumber : Bool → Plan → ℕ → Rooms → ℤ
+tableNumber relative p f rooms =
+    let answer = tableAnswer (ofPlan p) (columns p) f (tableIn relative p (everyRun p) f) rooms in
+    numberOf (answer .refused) (pos (answer .lines))
+
+-- generalized resolution in thousandths
+unfoldable pub ratioNumber : Plan → ℤ
+ratioNumber p =
+    let answer = generalizedAnswer p (everyRun p) (ofPlan p) in numberOf (answer .refused) (pos (answer .thousandths))
