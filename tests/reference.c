@@ -206,10 +206,11 @@ static Fraction largest_ratio(const Plan *p, long size)
     return largest;
 }
 
+/* The smallest q is 1000 at most, since a ratio above 1 is refused. */
 static long thousandths(long size, Fraction ratio)
 {
     wide q = 0;
-    while (q * q * ratio.den < 1000000 * ratio.num)
+    while (q < 1000 && q * q * ratio.den < 1000000 * ratio.num)
         q++;
     return 1000 * (size + 1) - (long)q;
 }
@@ -261,11 +262,6 @@ static long advice(const Plan *p)
 
 /* ---- plan text */
 
-typedef struct {
-    byte levels[16400], table[16400];
-    long columns, entries;
-} Read;
-
 /* One line's numbers; how many, or -1 where it is malformed. */
 static long read_line(const byte *line, long length, byte *numbers)
 {
@@ -285,7 +281,7 @@ static long read_line(const byte *line, long length, byte *numbers)
     }
 }
 
-static Refusal read_text(const byte *text, long length, Read *read)
+Refusal reference_read(const byte *text, long length, Read *read)
 {
     if (length > 32768)
         return refusal(13, 0, 0);
@@ -338,34 +334,45 @@ static byte *end_line(byte *out)
     return out;
 }
 
+static byte *put_refusal(byte *out, Refusal r)
+{
+    return end_line(field(field(field(put(out, "refused"), r.number), r.first), r.second));
+}
+
+static byte *put_words(byte *out, const Plan *p)
+{
+    for (long j = 1; j <= p->columns; j++) {
+        Fraction x = reduced(word(p, j), (wide)p->count * p->count);
+        out = end_line(field(field(field(put(out, "word"), j), x.num), x.den));
+    }
+    return out;
+}
+
+static byte *put_resolution(byte *out, long size, Fraction ratio)
+{
+    out = end_line(field(put(out, "resolution"), size));
+    out = end_line(field(field(put(out, "ratio"), ratio.num), ratio.den));
+    return end_line(field(put(out, "gr"), thousandths(size, ratio)));
+}
+
 long reference_listing(const byte *text, long length, byte *out)
 {
     static Read read;
     byte *start = out;
-    Refusal r = read_text(text, length, &read);
-    if (r.number != 0) {
-        out = end_line(field(field(field(put(out, "refused"), r.number), r.first), r.second));
-        return out - start;
-    }
+    Refusal r = reference_read(text, length, &read);
+    if (r.number != 0)
+        return put_refusal(out, r) - start;
     Plan p = whole(read.levels, read.columns, read.table, read.entries);
-    out = end_line(field(field(put(out, "plan"), p.count), p.columns));
-    for (long j = 1; j <= p.columns; j++) {
-        Fraction x = reduced(word(&p, j), (wide)p.count * p.count);
-        out = end_line(field(field(field(put(out, "word"), j), x.num), x.den));
-    }
-    out = end_line(field(put(out, "strength"), strength(&p)));
     long size = resolution(&p);
-    if (size > p.columns)
-        out = end_line(put(out, "resolution none"));
-    else {
-        Fraction ratio = largest_ratio(&p, size);
-        out = end_line(field(put(out, "resolution"), size));
-        out = end_line(field(field(put(out, "ratio"), ratio.num), ratio.den));
-        out = end_line(field(put(out, "gr"), thousandths(size, ratio)));
-    }
-    if (p.count < 2)
-        out = end_line(put(out, "lose none"));
-    else
-        out = end_line(field(put(out, "lose"), advice(&p)));
+    Fraction one = { 1, 1 }, ratio = { 0, 1 };
+    if (size <= p.columns)
+        ratio = largest_ratio(&p, size);
+    if (less(one, ratio))
+        return put_refusal(out, refusal(12, 0, 0)) - start;
+    out = end_line(field(field(put(out, "plan"), p.count), p.columns));
+    out = put_words(out, &p);
+    out = end_line(field(put(out, "strength"), strength(&p)));
+    out = size <= p.columns ? put_resolution(out, size, ratio) : end_line(put(out, "resolution none"));
+    out = p.count < 2 ? end_line(put(out, "lose none")) : end_line(field(put(out, "lose"), advice(&p)));
     return out - start;
 }

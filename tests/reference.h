@@ -19,6 +19,15 @@ Refusal reference_check(const byte *levels, long columns, const byte *table, lon
 /* W_j, or the refusal number negated. */
 long reference_word(const byte *levels, long columns, const byte *table, long entries, unsigned long length);
 
+/* The levels and the table in a text. */
+typedef struct {
+    byte levels[16400], table[16400];
+    long columns, entries;
+} Read;
+
+/* Refusals 13, 14 and 1 to 5; number 0 where there is none. */
+Refusal reference_read(const byte *text, long length, Read *read);
+
 /* The listing of a text; the number of bytes put into `out`, which has room for 4096. */
 long reference_listing(const byte *text, long length, byte *out);
 
