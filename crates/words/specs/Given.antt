@@ -2,10 +2,10 @@
 use mathlib.Core.Path.{_≡_}
 use mathlib.Core.List.{List, _∷_, map}
 use Prim.Native.Nat.{ℕ, _+_, _≤_, _<_}
-use lib.ListN.{length, getD}
+use lib.ListN.{length, getD, set}
 use lib.IntN.{ℤ, pos, natAbs, _+ℤ_, _*ℤ_}
 use Rattle.exact.specs.Lists.{from}
-use Rattle.rules.specs.Plan.{mostColumns, highestProduct}
+use Rattle.rules.specs.Plan.{mostColumns, highestLevel, highestProduct}
 
 -- a row with a number for each word length, each at most b in size
 pub record Row (b : ℕ) (row : List ℤ) : Type 0 where
@@ -18,6 +18,17 @@ pub record OfColumns (columns : ℕ) (row : List ℤ) : Type 0 where
   pub long : length row ≡ mostColumns + 1
   pub small : (k : ℕ) → natAbs (getD row k (pos 0)) ≤ highestProduct
   pub above : (k : ℕ) → columns < k → getD row k (pos 0) ≡ pos 0
+
+-- the sums at places k and k + 1 of a row, and the score x of a column, are small
+pub record Gains (x : ℤ) (k : ℕ) (row : List ℤ) : Type 0 where
+  pub inside : k < mostColumns
+  pub sum : natAbs (getD row (k + 1) (pos 0)) ≤ highestProduct
+  pub less : natAbs (getD row k (pos 0)) ≤ highestProduct
+  pub score : natAbs x ≤ highestLevel
+
+-- the sum at place k + 1 gains x times that of one length less
+abbrev pub gained : ℤ → ℕ → List ℤ → List ℤ
+gained x k row = set row (k + 1) (getD row (k + 1) (pos 0) +ℤ x *ℤ getD row k (pos 0))
 
 -- the row with one column more, of score x: each sum gains x times the sum of one length less
 unfoldable pub withColumn : ℤ → List ℤ → List ℤ

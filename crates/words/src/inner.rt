@@ -8,7 +8,7 @@ ghost use lib.IntN.{natAbs};
 ghost use Rattle.rules.specs.Plan.{plan, everyRun, highestLevel};
 ghost use Rattle.plan.specs.Good.{Good, Sound};
 ghost use Rattle.words.specs.Words.{score};
-ghost use Rattle.words.specs.Given.{Row, OfColumns, withColumn, added};
+ghost use Rattle.words.specs.Given.{Row, OfColumns, Gains, gained, withColumn, added};
 ghost use Rattle.words.specs.Answers.{pairList, rowList, rowsByRun, wordList, diagonalList};
 
 // The score of a column: its level less one where two entries agree, and -1 where they differ.
@@ -22,15 +22,28 @@ pub fn score(level: u8, a: u8, b: u8) -> i64
     }
 }
 
+// A sum gains the score times the sum of one length less.
+fn gain(sums: &mut [i64; 25], score: i64, k: usize)
+    requires { ⌜ Gains score k (now sums) ⌝ }
+    ensures { λ _. ⌜ now (sums .exit) ≡ gained score k (now (sums .entry)) ⌝ }
+{
+    sums[k + 1] = signed::add(sums[k + 1], signed::mul(score, sums[k]));
+}
+
 // One column more. `columns` are in the sums so far, so that the sums of greater lengths are zero and stay so.
+// Two lengths a turn: of one a turn the compiler makes vectors of two products of 64 bits, which x86-64 has no instruction for, and is slower.
 pub(crate) fn extend(sums: &mut [i64; 25], score: i64, columns: usize)
     requires { ⌜ OfColumns columns (now sums) × (natAbs score ≤ highestLevel) ⌝ }
     ensures { λ _. ⌜ now (sums .exit) ≡ withColumn score (now (sums .entry)) ⌝ }
 {
     let mut j = columns + 1;
-    while 0 < j {
-        j -= 1;
-        sums[j + 1] = signed::add(sums[j + 1], signed::mul(score, sums[j]));
+    while 2 <= j {
+        gain(sums, score, j - 1);
+        gain(sums, score, j - 2);
+        j -= 2;
+    }
+    if j == 1 {
+        gain(sums, score, 0);
     }
 }
 
