@@ -1,0 +1,61 @@
+/* The library's algorithms in C, for the benchmark. They take accepted plans
+ * and well-formed text alone: nothing is checked.
+ */
+#ifndef ALGORITHMS_H
+#define ALGORITHMS_H
+
+#include <stdint.h>
+
+typedef uint8_t byte;
+
+enum { MOST_COLUMNS = 24, MOST_RUNS = 256, MOST_SETS = 10626 };
+
+/* By value, so that no store through a pointer can be one to its fields. */
+typedef struct {
+    const byte *levels, *table;
+    long columns;
+} Plan;
+
+/* Some runs of a plan, by their numbers. */
+typedef struct {
+    long numbers[MOST_RUNS];
+    long count;
+} Runs;
+
+typedef struct {
+    uint64_t num, den;
+} Fraction;
+
+static inline long score(byte level, byte a, byte b)
+{
+    return a == b ? level - 1 : -1;
+}
+
+static inline const byte *start_of(Plan plan, long run)
+{
+    return plan.table + run * plan.columns;
+}
+
+/* words.c: rooms for 24 numbers, length 1 first */
+void every_run(long n, Runs *runs);
+void row_in_c(Plan plan, const Runs *runs, long run, long *row);
+void words_in_c(Plan plan, const Runs *runs, long *words);
+void diagonal_in_c(Plan plan, long *diagonal);
+
+/* strikes.c: as bench_strikes */
+long strikes_in_c(Plan plan, long n, long length, long times);
+
+/* tables.c */
+void fill_binomials(void);
+long binomial(long a, long b);
+void set_at(long columns, long size, long place, long *set);
+Fraction reduced(uint64_t num, uint64_t den);
+int compared(Fraction x, Fraction y); /* below, at or above zero */
+Fraction value_in_c(Plan plan, const Runs *runs, const long *set, long size, int relative);
+long table_in_c(Plan plan, long n, long size, int relative, uint64_t *nums, uint64_t *dens, uint64_t *counts);
+
+/* listing.c: as bench_ratio and crumb_listing, with a room for 2048 bytes */
+long ratio_in_c(Plan plan, long n);
+long listing_in_c(const byte *text, long length, byte *room);
+
+#endif

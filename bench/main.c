@@ -1,0 +1,166 @@
+/* The library and the same algorithms in C at -O3, in one process, turn by
+ * turn on the same inputs: prints the times and their ratio. The answers must
+ * agree. With the argument `judged` the words of the largest plan may take at
+ * most 1.3 times as long as in C. With `emulated` the longest line is left
+ * out.
+ */
+#include "algorithms.h"
+#include "timing.h"
+#include "works.h"
+
+int printf(const char *format, ...);
+int strcmp(const char *a, const char *b);
+
+static int differ, emulated;
+
+/* ---- lines */
+
+/* How many calls make a turn that the clock can tell: the less a plan's words cost, the more. */
+static long calls_in_a_turn(void)
+{
+    return 1 + 20000000 / (n * n * m * m);
+}
+
+static Times timed(Work *library, Work *c)
+{
+    return turn_by_turn(library, c, calls_in_a_turn(), 1);
+}
+
+static double ratio_of(Times times)
+{
+    return times.library / (times.c > 0 ? times.c : 1);
+}
+
+static void print_line(const char *name, Times times)
+{
+    differ |= times.differ;
+    printf("%-24s %4ld %4ld %12.1f %12.1f %6.2f%s\n", name, n, m, times.library, times.c, ratio_of(times),
+           times.differ ? "  THE ANSWERS DIFFER" : "");
+}
+
+static Times print_timed(const char *name, Work *library, Work *c)
+{
+    Times times = timed(library, c);
+    print_line(name, times);
+    return times;
+}
+
+/* ---- words */
+
+static void time_words(long runs, long columns)
+{
+    make_any(runs, columns);
+    print_timed("words", word_of_library, word_of_c);
+}
+
+/* The line that is judged has every round, however long it takes. */
+static double judged_words(void)
+{
+    make_any(256, 24);
+    Times times = turn_by_turn(word_of_library, word_of_c, 1, emulated ? 1 : 100);
+    print_line("words", times);
+    return ratio_of(times);
+}
+
+/* ---- a strike against a recount */
+
+/* One strike or reinstatement: what many rounds take, less the opening. */
+static Times strike_times(void)
+{
+    times_struck = 0;
+    Times opening = timed(strikes_of_library, strikes_of_c);
+    times_struck = 200;
+    Times whole = timed(strikes_of_library, strikes_of_c);
+    double calls = 2 * times_struck;
+    Times strike = { (whole.library - opening.library) / calls, (whole.c - opening.c) / calls, opening.differ | whole.differ };
+    return strike;
+}
+
+static void time_strikes(long runs, long columns)
+{
+    make_any(runs, columns);
+    Times strike = strike_times();
+    print_line("strike", strike);
+    Times recount = print_timed("recount", recount_of_library, recount_of_c);
+    differ |= recount_of_library() != strikes_of_library();
+    printf("  strikes in a recount             %12.1f %12.1f\n", recount.library / strike.library, recount.c / strike.c);
+}
+
+/* ---- tables and generalized resolution */
+
+static void time_table(long runs, long columns, long f)
+{
+    make_any(runs, columns);
+    size = f;
+    print_timed(f == 3 ? "table, f = 3" : "table, f = 4", table_of_library, table_of_c);
+}
+
+static void time_ratio(long runs, long columns)
+{
+    make_even(runs, columns);
+    print_timed("generalized resolution", ratio_of_library, ratio_of_c);
+}
+
+/* ---- the listing */
+
+static void time_listing(long runs, long columns)
+{
+    make_even(runs, columns);
+    print_timed("listing", listing_of_library, listing_of_c);
+}
+
+/* ---- growth */
+
+/* Each line, and how many times the line before it took. */
+static void time_growth(const char *name, const long sizes[][2], long lines)
+{
+    Times before = { 0, 0, 0 };
+    for (long k = 0; k < lines; k++) {
+        make_any(sizes[k][0], sizes[k][1]);
+        Times times = print_timed(name, word_of_library, word_of_c);
+        if (k > 0)
+            printf("  times the line before            %12.1f %12.1f\n", times.library / before.library, times.c / before.c);
+        before = times;
+    }
+}
+
+static void time_all_growth(void)
+{
+    static const long by_runs[][2] = { { 16, 24 }, { 32, 24 }, { 64, 24 }, { 128, 24 }, { 256, 24 } };
+    static const long by_columns[][2] = { { 256, 6 }, { 256, 12 }, { 256, 24 } };
+    time_growth("words, n grows", by_runs, 5);
+    time_growth("words, m grows", by_columns, 3);
+}
+
+static void time_tables(void)
+{
+    time_table(64, 12, 3);
+    time_table(64, 12, 4);
+    time_table(256, 24, 3);
+    if (!emulated)
+        time_table(256, 24, 4);
+    time_ratio(64, 12);
+    time_ratio(256, 24);
+    time_listing(64, 12);
+    time_listing(256, 24);
+}
+
+int main(int count, char **arguments)
+{
+    int judged = count > 1 && strcmp(arguments[1], "judged") == 0;
+    emulated = count > 1 && strcmp(arguments[1], "emulated") == 0;
+    fill_binomials();
+    printf("%-24s %4s %4s %12s %12s %6s\n", "", "runs", "cols", "library us", "C us", "ratio");
+    time_words(16, 5);
+    time_words(64, 12);
+    double ratio = judged_words();
+    time_strikes(64, 12);
+    time_strikes(256, 24);
+    time_tables();
+    time_all_growth();
+    int slow = judged && ratio > 1.3;
+    printf(differ ? "the answers differ\n" : "the answers agree\n");
+    if (slow)
+        printf("the words of the largest plan take more than 1.3 times the time of C\n");
+    return differ || slow;
+}

@@ -1,0 +1,159 @@
+#include "crumbchorus.h"
+#include "algorithms.h"
+#include "exports.h"
+#include "works.h"
+
+long n, m, size, times_struck;
+
+static byte levels[MOST_COLUMNS], table[MOST_RUNS * MOST_COLUMNS];
+
+static Plan plan(void)
+{
+    Plan plan = { levels, table, m };
+    return plan;
+}
+
+/* ---- plans */
+
+static uint64_t state = 20261115;
+
+void make_any(long runs, long columns)
+{
+    n = runs;
+    m = columns;
+    for (long i = 0; i < m; i++)
+        levels[i] = i < 4 ? 3 : 2;
+    for (long e = 0; e < n * m; e++) {
+        state = state * 6364136223846793005UL + 1442695040888963407UL;
+        table[e] = (byte)((state >> 33) % levels[e % m]);
+    }
+}
+
+static byte text[2 * (MOST_RUNS + 1) * MOST_COLUMNS];
+static long text_bytes;
+
+/* Levels and entries of one digit. */
+static void write_text(void)
+{
+    text_bytes = 0;
+    for (long e = -m; e < n * m; e++) {
+        text[text_bytes++] = '0' + (e < 0 ? levels[e + m] : table[e]);
+        text[text_bytes++] = (e + m) % m == m - 1 ? '\n' : ',';
+    }
+}
+
+/* Column i is the parity of the bits that the run's number and i + 1 share. */
+void make_even(long runs, long columns)
+{
+    n = runs;
+    m = columns;
+    for (long i = 0; i < m; i++)
+        levels[i] = 2;
+    for (long e = 0; e < n * m; e++)
+        table[e] = __builtin_parityl((e / m) & (e % m + 1));
+    write_text();
+}
+
+/* ---- words */
+
+long word_of_library(void)
+{
+    return crumb_word(levels, m, table, n * m, 3);
+}
+
+long word_of_c(void)
+{
+    long words[MOST_COLUMNS];
+    Runs runs;
+    every_run(n, &runs);
+    words_in_c(plan(), &runs, words);
+    return words[2];
+}
+
+/* ---- strikes, and a recount */
+
+long strikes_of_library(void)
+{
+    return bench_strikes(levels, m, table, n * m, 3, times_struck);
+}
+
+long strikes_of_c(void)
+{
+    return strikes_in_c(plan(), n, 3, times_struck);
+}
+
+long recount_of_library(void)
+{
+    return crumb_word(levels, m, table + m, (n - 1) * m, 3);
+}
+
+long recount_of_c(void)
+{
+    long words[MOST_COLUMNS];
+    Runs runs;
+    every_run(n, &runs);
+    for (long k = 1; k < n; k++)
+        runs.numbers[k - 1] = k;
+    runs.count = n - 1;
+    words_in_c(plan(), &runs, words);
+    return words[2];
+}
+
+/* ---- tables and generalized resolution */
+
+static uint64_t nums[MOST_SETS], dens[MOST_SETS], counts[MOST_SETS];
+
+static long mixed(long sum, uint64_t number)
+{
+    return (long)((uint64_t)sum * 1099511628211UL + number);
+}
+
+static long sum_of_table(long lines)
+{
+    long sum = lines;
+    for (long k = 0; k < lines; k++)
+        sum = mixed(mixed(mixed(sum, nums[k]), dens[k]), counts[k]);
+    return sum;
+}
+
+long table_of_library(void)
+{
+    return sum_of_table(bench_table(levels, m, table, n * m, size, 0, nums, MOST_SETS, dens, MOST_SETS, counts, MOST_SETS));
+}
+
+long table_of_c(void)
+{
+    return sum_of_table(table_in_c(plan(), n, size, 0, nums, dens, counts));
+}
+
+long ratio_of_library(void)
+{
+    return bench_ratio(levels, m, table, n * m);
+}
+
+long ratio_of_c(void)
+{
+    return ratio_in_c(plan(), n);
+}
+
+/* ---- the listing */
+
+static byte room[2048];
+
+static long sum_of_listing(long bytes)
+{
+    long sum = bytes;
+    for (long k = 0; k < bytes; k++)
+        sum = mixed(sum, room[k]);
+    return sum;
+}
+
+long listing_of_library(void)
+{
+    return sum_of_listing(crumb_listing(text, text_bytes, room, sizeof room));
+}
+
+long listing_of_c(void)
+{
+    return sum_of_listing(listing_in_c(text, text_bytes, room));
+}

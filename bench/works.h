@@ -1,0 +1,27 @@
+/* What is timed, by the library and in C: each works on the plan that was made
+ * last, and answers a number that tells whether the two agree.
+ */
+#ifndef WORKS_H
+#define WORKS_H
+
+/* The plan's runs and columns, the size of a table, and the rounds of strikes. */
+extern long n, m, size, times_struck;
+
+/* Any entries: four columns of three levels, the others of two. */
+void make_any(long runs, long columns);
+
+/* Two levels and strength 2, with its text. */
+void make_even(long runs, long columns);
+
+/* The word of length 3: of all runs; of all but run 0, which was struck after so
+ * many rounds; and of all but run 0, counted anew.
+ */
+long word_of_library(void), word_of_c(void);
+long strikes_of_library(void), strikes_of_c(void);
+long recount_of_library(void), recount_of_c(void);
+
+long table_of_library(void), table_of_c(void);
+long ratio_of_library(void), ratio_of_c(void);
+long listing_of_library(void), listing_of_c(void);
+
+#endif
