@@ -1,23 +1,20 @@
 -- The walk over the runs: the best so far, by the row sums that the words' routine gives.
 use mathlib.Core.Path.{_≡_, refl, sym, _∙_, ap, ap₂}
-use mathlib.Core.Bool.{Bool, true, false, cond, _||_}
-use mathlib.Core.Logic.{_⊎_, inl, inr}
-use mathlib.Core.List.{List, [], _∷_, List·Memᴰ, List·Memᴰ·head, List·Memᴰ·not-nil, List·Memᴰ·cases-cons}
+use mathlib.Core.Bool.{Bool, true, false, cond}
+use mathlib.Core.List.{List, [], _∷_, List·Memᴰ, List·Memᴰ·head}
 use Prim.Native.Nat.{ℕ, suc, _+_, _≤_, _<_}
 use native.Mathlib.Nat.{zero-add}
 use native.Mathlib.Numerals.{add-one}
 use native.Mathlib.Omega.{arith}
-use borrow.Author.Tests.{eq-eqb}
-use lib.Dec.{eqb}
 use lib.ListN.{length, getD, take, drop, length-map}
 use lib.Seq.{drop-cons, drop-length}
 use Rattle.exact.specs.Lists.{from, holds}
 use Rattle.exact.specs.Fractions.{isBetter}
+use Rattle.exact.proofs.Members.{getD-mem, mem-holds}
+use Rattle.exact.proofs.Numbers.{map-from-at}
 use Rattle.rules.specs.Plan.{Plan, columns, mostColumns, mostRuns}
-use Rattle.sets.proofs.Pascal.{getD-mem}
 use Rattle.words.specs.declared.Sums.{Sums}
 use Rattle.words.specs.Answers.{zeros, rowList, rowsByRun}
-use Rattle.words.proofs.Rows.{map-from-at}
 use Rattle.compare.proofs.OfPlan.{first-lengths}
 use Rattle.advice.specs.Advice.{advice}
 use Rattle.advice.specs.Rows.{largerRow}
@@ -27,18 +24,6 @@ use Rattle.advice.proofs.Largest.{rowOf, rowTo, rowOrder, loss-row}
 use Rattle.advice.proofs.Optimal.{lossesOf, advice-kept}
 
 -- ---- the row sums of a run that stands
-
-mem-holds : (f : ℕ) (rs : List ℕ) → List·Memᴰ f rs → holds f rs ≡ true
-mem-holds f [] m = absurd (List·Memᴰ·not-nil m)
-mem-holds f (g ∷ rs) m = go (List·Memᴰ·cases-cons m) (mem-holds f rs)
-  where
-    or-true : (b : Bool) → (b || true) ≡ true
-    or-true true = refl
-    or-true false = refl
-
-    go : (f ≡ g) ⊎ List·Memᴰ f rs → (List·Memᴰ f rs → holds f rs ≡ true) → (eqb f g || holds f rs) ≡ true
-    go (inl e) later = ap (λ b. b || holds f rs) (eq-eqb f g e)
-    go (inr n) later = ap (λ b. eqb f g || b) (later n) ∙ or-true (eqb f g)
 
 -- past the last
 abbrev pub past : Sums

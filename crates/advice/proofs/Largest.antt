@@ -19,6 +19,7 @@ use Rattle.exact.proofs.Ring.{ring}
 use Rattle.exact.proofs.Order.{≤-diff, ≤-antisym, ≤-total, is-pos}
 use Rattle.exact.proofs.Verdicts.{smaller-ind, smaller-lt, smaller-gt, smaller-eq}
 use Rattle.exact.proofs.Numbers.{length-from}
+use Rattle.exact.proofs.Members.{keep-mem}
 use Rattle.rules.specs.Plan.{Plan, columns, level, entry, everyColumn}
 use Rattle.plan.specs.Good.{Sound}
 use Rattle.words.specs.Words.{word, rowSum, diagonal}
@@ -28,7 +29,7 @@ use Rattle.compare.specs.Compare.{A, pattern, patternOf, comparePatterns}
 use Rattle.advice.specs.Advice.{without}
 use Rattle.advice.specs.Rows.{larger, largerRow}
 use Rattle.advice.specs.Given.{Rising}
-use Rattle.advice.proofs.Without.{keep-mem, parted, without-length}
+use Rattle.advice.proofs.Without.{parted, without-length}
 
 -- ---- one length
 

@@ -9,30 +9,19 @@ use lib.Dec.{eqb, eqb→eq, eqb-refl}
 use lib.ListN.{length, length-append}
 use Rattle.exact.specs.Lists.{keep}
 use Rattle.exact.proofs.Tests.{is-true, is-false}
+use Rattle.exact.proofs.Members.{keep-mem}
 use Rattle.advice.specs.Advice.{without}
 use Rattle.advice.specs.Given.{Rising}
 
 -- ---- what is kept of a list
 
 module _ (test : ℕ → Bool) where
-  pub keep-mem : (rs : List ℕ) (g : ℕ) → List·Memᴰ g (keep test rs) → List·Memᴰ g rs
-  keep-mem [] g m = m
-  keep-mem (f ∷ fs) g m = go (test f) m (keep-mem fs g)
-    where
-      go : (t : Bool) → List·Memᴰ g (cond t (f ∷ keep test fs) (keep test fs)) → (List·Memᴰ g (keep test fs) → List·Memᴰ g fs) → List·Memᴰ g (f ∷ fs)
-      go true n later = first (List·Memᴰ·cases-cons n)
-        where
-          first : (g ≡ f) ⊎ List·Memᴰ g (keep test fs) → List·Memᴰ g (f ∷ fs)
-          first (inl e) = List·Memᴰ·head e
-          first (inr k) = List·Memᴰ·tail (later k)
-      go false n later = List·Memᴰ·tail (later n)
-
   pub keep-rising : (rs : List ℕ) → Rising rs → Rising (keep test rs)
   keep-rising [] r = r
   keep-rising (f ∷ fs) r = go (test f) (keep-rising fs (r .1))
     where
       go : (t : Bool) → Rising (keep test fs) → Rising (cond t (f ∷ keep test fs) (keep test fs))
-      go true k = (λ g m. r .0 g (keep-mem fs g m), k)
+      go true k = (λ g m. r .0 g (keep-mem test fs g m), k)
       go false k = k
 
 -- ---- without one run

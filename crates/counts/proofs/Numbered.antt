@@ -12,6 +12,7 @@ use lib.Dec.{T, eqb, eqb→eq, eqb-refl}
 use Rattle.exact.specs.Lists.{from, each, alike, count}
 use Rattle.exact.proofs.Numbers.{from-add, mem-from}
 use Rattle.exact.proofs.Tests.{both, join}
+use Rattle.exact.proofs.Lists.{map-cong-in}
 use Rattle.counts.specs.Counts.{combinations, shows, tally, even}
 use Rattle.counts.specs.Numbered.{productOf, numberOf, tallyOf}
 
@@ -26,11 +27,6 @@ module _ {A B : Type 0} where
           (z : A) × List·Memᴰ z (x ∷ xs) × List·Memᴰ y (g z)
       go (inl n) f = (x, List·Memᴰ·head refl, n)
       go (inr n) f = let (z, k, l) = f n in (z, List·Memᴰ·tail k, l)
-
-  map-cong-in : (xs : List A) {f g : A → B} → ((x : A) → List·Memᴰ x xs → f x ≡ g x) → map f xs ≡ map g xs
-  map-cong-in [] h = refl
-  map-cong-in (x ∷ xs) {f} {g} h =
-      rw (h x (List·Memᴰ·head refl), map-cong-in xs {f = f} {g = g} (λ y m. h y (List·Memᴰ·tail m)))
 
 module _ {A : Type 0} where
   pub count-cong-in : (xs : List A) {p q : A → Bool} → ((x : A) → List·Memᴰ x xs → p x ≡ q x) → count p xs ≡ count q xs

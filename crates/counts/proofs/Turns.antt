@@ -13,15 +13,15 @@ use lib.Dec.{eqb}
 use lib.ListN.{length, getD, take, drop, set, length-set, drop-of-length-le, replicate}
 use lib.Seq.{take-suc, drop-cons, take-at, getD-set-same, getD-set-other, ext-getD}
 use Rattle.exact.specs.Lists.{from, filledTo, all, alike, count, largest}
-use Rattle.exact.proofs.Numbers.{length-from, from-add, mem-from}
+use Rattle.exact.proofs.Numbers.{length-from, from-add, mem-from, map-from-at}
 use Rattle.exact.proofs.Rooms.{length-numbered}
+use Rattle.exact.proofs.Members.{getD-mem, take-mem}
+use Rattle.exact.proofs.Lists.{count-snoc}
 use Rattle.rules.specs.Plan.{Plan, columns, level, entry, everyColumn, mostRuns}
 use Rattle.sets.specs.Sets.{setsOf, setAt, binom}
-use Rattle.sets.proofs.Pascal.{getD-mem, many-sets}
+use Rattle.sets.proofs.Pascal.{many-sets}
 use Rattle.sets.proofs.Parts.{choose-part, part-mem}
 use Rattle.plan.specs.Good.{Sound}
-use Rattle.words.proofs.Totals.{take-mem}
-use Rattle.words.proofs.Rows.{map-from-at}
 use Rattle.counts.specs.Counts.{even, balanced, strength}
 use Rattle.counts.specs.Numbered.{productOf, numberOf, tallyOf, tallies, Columns}
 use Rattle.counts.proofs.Numbered.{Below, number-below, even-numbered}
@@ -74,17 +74,6 @@ module _ {R C : Type 0} (level : C → ℕ) (entry : R → C → ℕ) (f : R) wh
 -- ---- one run more
 
 module _ {A : Type 0} where
-  count-snoc : (test : A → Bool) (xs : List A) (x : A) → count test (xs ++ x ∷ []) ≡ cond (test x) (count test xs + 1) (count test xs)
-  count-snoc test [] x = refl
-  count-snoc test (y ∷ ys) x = rw (count-snoc test ys x) (go (test y) (test x))
-    where
-      go : (b c : Bool) → cond b (suc (cond c (count test ys + 1) (count test ys))) (cond c (count test ys + 1) (count test ys)) ≡
-          cond c (cond b (suc (count test ys)) (count test ys) + 1) (cond b (suc (count test ys)) (count test ys))
-      go true true = omega arith
-      go true false = refl
-      go false true = refl
-      go false false = refl
-
   count-bound : (test : A → Bool) (xs : List A) → count test xs ≤ length xs
   count-bound test [] = le-refl 0
   count-bound test (x ∷ xs) = go (test x) (count-bound test xs)

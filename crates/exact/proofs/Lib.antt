@@ -11,3 +11,4 @@ pub mod Reduced
 pub mod Verdicts
 pub mod Lawful
 pub mod Lists
+pub mod Members

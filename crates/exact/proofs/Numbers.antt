@@ -1,11 +1,11 @@
 -- The numbers in a row, and where a row of a flat table lies.
-use mathlib.Core.Path.{_≡_, refl, sym, _∙_, ap, subst}
+use mathlib.Core.Path.{_≡_, refl, sym, _∙_, ap, subst, fun-ext}
 use mathlib.Core.Logic.{_⊎_, inl, inr}
 use mathlib.Core.List.{List, [], _∷_, _++_, map, List·Memᴰ, List·Memᴰ·head, List·Memᴰ·tail, List·Memᴰ·not-nil, List·Memᴰ·cases-cons}
 use Prim.Native.Nat.{ℕ, zero, suc, _+_, _*_, _≤_, _<_}
 use native.Mathlib.Nat.{eq-or-lt-of-le, add-zero, zero-add, suc-add, add-suc, suc-mul, mul-le-mul, mul-le-mul-right}
 use native.Mathlib.Omega.{arith}
-use lib.ListN.{length, getD}
+use lib.ListN.{length, getD, length-map}
 use Rattle.exact.specs.Lists.{from}
 
 pub length-from : (a n : ℕ) → length (from a n) ≡ n
@@ -56,3 +56,18 @@ row-within f n m h = subst (λ (x : ℕ). x ≤ n * m) (suc-mul f m) (mul-le-mul
 -- explicit, since `omega` proves the premises only where they are determined
 pub mul-below : (n m a b : ℕ) → n ≤ a → m ≤ b → n * m ≤ a * b
 mul-below n m a b h k = mul-le-mul h k
+
+-- ---- a number of each from a on
+
+module _ {A : Type 0} (F : ℕ → A) where
+  pub length-map-from : (a n : ℕ) → length (map F (from a n)) ≡ n
+  length-map-from a n = length-map (from a n) F ∙ length-from a n
+
+  pub map-from-at : (a n k : ℕ) (d : A) → k < n → getD (map F (from a n)) k d ≡ F (a + k)
+  map-from-at a zero k d h = absurd (omega arith)
+  map-from-at a (suc n) zero d h = ap F (sym (add-zero a))
+  map-from-at a (suc n) (suc k) d h = map-from-at (suc a) n k d (omega arith) ∙ ap F (suc-add a k ∙ sym (add-suc a k))
+
+module _ {A : Type 0} {F G : ℕ → A} where
+  pub map-from-cong : (a n : ℕ) → ((k : ℕ) → F k ≡ G k) → map F (from a n) ≡ map G (from a n)
+  map-from-cong a n h = ap (λ f. map f (from a n)) (fun-ext h)

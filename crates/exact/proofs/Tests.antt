@@ -48,3 +48,7 @@ module _ {A : Type 0} (test : A → Bool) where
   pub mem-all : (xs : List A) → ((x : A) → List·Memᴰ x xs → T (test x)) → T (all xs test)
   mem-all [] h = tt
   mem-all (y ∷ ys) h = join (test y) (all ys test) (h y (List·Memᴰ·head refl)) (mem-all ys (λ x m. h x (List·Memᴰ·tail m)))
+
+-- a test is not both
+pub clash : {X : Type 0} (b : Bool) → b ≡ true → b ≡ false → X
+clash b p q = absurd (false-is b q (true-is b p))

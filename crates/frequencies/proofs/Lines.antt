@@ -14,10 +14,9 @@ use Rattle.exact.specs.declared.fractions.Fraction.{Fraction}
 use Rattle.exact.specs.declared.fractions.Verdict.{Verdict}
 use Rattle.exact.specs.declared.fractions.Verdict.the-variants.{Better, Worse, Equal}
 use Rattle.exact.proofs.Lists.{map-cong-in, map-set, map-take, map-drop, map-map}
-use Rattle.exact.proofs.Numbers.{length-from, map-places, mem-from}
+use Rattle.exact.proofs.Numbers.{length-from, map-places, mem-from, map-from-at}
 use Rattle.exact.proofs.Rooms.{map-++}
 use Rattle.exact.proofs.Searches.{IsFirst, first-is}
-use Rattle.words.proofs.Rows.{map-from-at}
 use Rattle.frequencies.specs.Frequencies.{Line, line, oneMore, Rooms, rooms, lineAt, linesIn, filled}
 use Rattle.frequencies.specs.Given.{putBefore, notSmaller, Fillable}
 use Rattle.frequencies.proofs.Shifts.{length-put}

@@ -4,8 +4,8 @@ use mathlib.Core.Bool.{Bool}
 use mathlib.Core.List.{List, [], _∷_, _++_, map, List·Memᴰ, Memᴰ·of-map}
 use Prim.Native.Nat.{ℕ, _+_, _-_, _≤_, _<_, _^_}
 use native.Mathlib.Omega.{arith}
-use lib.ListN.{length, getD, take, drop, replicate, length-append, length-drop, length-map, List·getD-append}
-use lib.Seq.{drop-append-add, drop-drop, take-at}
+use lib.ListN.{length, getD, drop, length-append, length-drop, length-map, List·getD-append}
+use lib.Seq.{drop-append-add, drop-drop}
 use lib.Dec.{leb, leb→le}
 use Rattle.exact.specs.Lists.{from, into, all}
 use Rattle.exact.specs.Fractions.{smallerFraction, isEqual, ShortDenominator}
@@ -16,12 +16,13 @@ use Rattle.exact.proofs.Lists.{map-cong-in, map-map, getD-map, count-most}
 use Rattle.exact.proofs.Numbers.{map-places, mem-from, from-mem}
 use Rattle.exact.proofs.Rooms.{length-numbered, numbered-next}
 use Rattle.exact.proofs.Tests.{all-mem}
+use Rattle.exact.proofs.Members.{getD-mem}
 use Rattle.rules.specs.Plan.{Plan, columns, mostColumns}
 use Rattle.sets.specs.Sets.{binom, setsOf, setAt}
 use Rattle.sets.proofs.Parts.{choose-part}
 use Rattle.sets.proofs.Places.{set-at-set, every-set}
 use Rattle.sets.proofs.Rising.{set-part}
-use Rattle.sets.proofs.Pascal.{getD-mem, many-sets}
+use Rattle.sets.proofs.Pascal.{many-sets}
 use Rattle.projections.specs.Projections.{valueIn}
 use Rattle.frequencies.specs.Frequencies.{Line, line, pick, times, tableOf, tableIn, oneMore, Rooms, lineAt, linesIn, filled}
 use Rattle.projections.specs.Given.{SizeOf, Tabled, Projection}

@@ -9,6 +9,7 @@ use borrow.Author.Tests.{not-true, lt-ltb, le-ltb, eqb-true, eqb-false}
 use lib.Dec.{eqb}
 use lib.ListN.{length, getD, set, replicate, length-append, length-set}
 use lib.Seq.{ext-getD, getD-set-same, getD-set-other, set-set, set-comm}
+use Rattle.exact.proofs.Tests.{clash}
 use Rattle.rules.specs.Plan.{Plan, columns, runs, mostRuns}
 use Rattle.rules.specs.Refusals.{refuses, accepted}
 use Rattle.plan.specs.Good.{Good}
@@ -36,21 +37,8 @@ use Rattle.held.specs.Held.{
   callAnswer,
 }
 use Rattle.held.specs.History.{isAccepted, after, orElse, own, lastOf, standsBy, markOf}
-use Rattle.held.proofs.Standing.{clash, marked, stands-marked, fewer, set-same}
-use Rattle.held.proofs.Marks.{
-  answered,
-  refusalOf,
-  marksAfter,
-  Accepts,
-  accepts,
-  after-ind,
-  length-after,
-  left-after,
-  marks-in,
-  plan-in,
-  call-is,
-  call-empty,
-}
+use Rattle.held.proofs.Standing.{marked, stands-marked, fewer, set-same}
+use Rattle.held.proofs.Marks.{answered, refusalOf, marksAfter, Accepts, accepts, after-ind, length-after, left-after, marks-in, plan-in, call-is, call-empty}
 
 -- ---- every call hands back a held plan
 

@@ -9,6 +9,7 @@ use lib.Dec.{ltb}
 use lib.ListN.{length, getD, set, replicate, length-set}
 use lib.Seq.{take-at, set-append-left}
 use Rattle.exact.specs.Lists.{filledTo}
+use Rattle.exact.proofs.Tests.{clash}
 use Rattle.rules.specs.Plan.{Plan, plan, columns, runs, mostColumns, mostRuns}
 use Rattle.rules.specs.Refusals.{refusal, refuses, unless, plain, accepted}
 use Rattle.rules.specs.declared.Refusal.{Refusal}
@@ -31,7 +32,7 @@ use Rattle.held.specs.Held.{
   remarked,
   callAnswer,
 }
-use Rattle.held.proofs.Standing.{clash, fewer, set-same}
+use Rattle.held.proofs.Standing.{fewer, set-same}
 
 abbrev pub answered : Refusal → Held → HeldAnswer
 answered r h = record { refused = r; held = h }

@@ -11,11 +11,8 @@ use native.Mathlib.Omega.{arith}
 use lib.ListN.{length, getD, set, take, replicate, length-append}
 use lib.Seq.{set-getD, take-suc, length-take-le}
 use Rattle.exact.specs.Lists.{from}
-use Rattle.exact.proofs.Tests.{true-is, false-is}
+use Rattle.exact.proofs.Tests.{clash}
 use Rattle.held.specs.Held.{standingFrom, standing}
-
-pub clash : {X : Type 0} (b : Bool) → b ≡ true → b ≡ false → X
-clash b p q = absurd (false-is b q (true-is b p))
 
 -- ---- the members are exactly the runs whose mark is set
 

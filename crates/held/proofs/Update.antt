@@ -9,11 +9,11 @@ use lib.ListN.{length, getD, set}
 use lib.Seq.{ext-getD}
 use Rattle.exact.proofs.Ring.{neg-*}
 use Rattle.exact.proofs.Order.{natAbs-+, natAbs-*-≤}
+use Rattle.exact.proofs.Numbers.{length-map-from, map-from-at}
 use Rattle.rules.specs.Plan.{Plan, level, entry, everyColumn, mostColumns}
 use Rattle.words.specs.Words.{word, rowSum, diagonal}
 use Rattle.words.specs.Answers.{wordList, rowList, diagonalList}
 use Rattle.words.proofs.Laws.{strike, reinstate}
-use Rattle.words.proofs.Rows.{length-map-from, map-from-at}
 use Rattle.held.specs.Held.{standing}
 use Rattle.held.specs.Given.{factorOf, changed}
 use Rattle.held.proofs.Standing.{around, set-same}

@@ -9,6 +9,7 @@ use lib.IntN.{ℤ, natAbs}
 use lib.ListN.{length}
 use Rattle.exact.specs.Lists.{keep, holds}
 use Rattle.exact.proofs.Numbers.{length-from, mul-below}
+use Rattle.exact.proofs.Members.{keep-mem}
 use Rattle.rules.specs.Plan.{Plan, columns, level, entry, everyColumn, mostColumns, mostRuns}
 use Rattle.rules.specs.Refusals.{plain, accepted}
 use Rattle.rules.specs.declared.Refusal.{Refusal}
@@ -22,7 +23,7 @@ use Rattle.resolution.specs.Resolution.{resolutionIn, ratioIn, largestRa
 use Rattle.resolution.specs.Charts.{columnRatio}
 use Rattle.resolution.specs.Given.{Measured, wordIn, firstAbove, ratiosOf, refusing, measures, ratingOf, Small}
 use Rattle.resolution.proofs.Resolved.{resolution-is, resolution-words}
-use Rattle.resolution.proofs.Walk.{keep-mem, ratios-small}
+use Rattle.resolution.proofs.Walk.{ratios-small}
 use Rattle.resolution.specs.declared.inner.Rating.{Rating}
 use Rattle.resolution.specs.declared.inner.Ratios.{Ratios}
 

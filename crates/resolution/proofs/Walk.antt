@@ -1,22 +1,22 @@
 -- The walk over the sets of some size: one set more is one comparison, and every ratio has a short denominator.
 use mathlib.Core.Path.{_≡_, sym, _∙_, ap, subst}
 use mathlib.Core.Bool.{Bool, true, false, cond}
-use mathlib.Core.List.{List, [], _∷_, _++_, map, map-append, List·Memᴰ, List·Memᴰ·head, List·Memᴰ·tail, Memᴰ·of-map}
-use mathlib.Core.List.{Memᴰ·append-left}
+use mathlib.Core.List.{List, [], _∷_, _++_, map, map-append, List·Memᴰ, Memᴰ·of-map}
 use Prim.Native.Nat.{ℕ, _+_, _*_, _-_, _≤_, _<_, _^_}
 use native.Mathlib.Numerals.{add-one}
 use native.Mathlib.Omega.{arith}
 use lib.IntN.{natAbs}
-use lib.ListN.{length, take, drop, take-append-drop}
+use lib.ListN.{length, take}
 use lib.Seq.{take-suc, take-length}
 use Rattle.exact.specs.Lists.{from, keep, holds, smallest}
 use Rattle.exact.specs.Fractions.{ShortDenominator}
 use Rattle.exact.specs.declared.fractions.Fraction.{Fraction}
 use Rattle.exact.proofs.Reduced.{reduced-num-≤}
+use Rattle.exact.proofs.Members.{getD-mem, keep-mem, take-mem}
 use Rattle.rules.specs.Plan.{Plan, columns, level, entry}
 use Rattle.sets.specs.Sets.{binom, setsOf, setAt}
 use Rattle.sets.proofs.Parts.{choose-part}
-use Rattle.sets.proofs.Pascal.{getD-mem, many-sets}
+use Rattle.sets.proofs.Pascal.{many-sets}
 use Rattle.words.specs.Words.{wordOf}
 use Rattle.projections.specs.Given.{Projection, Tabled}
 use Rattle.projections.specs.Projections.{relativeOf}
@@ -41,21 +41,6 @@ module _ {A : Type 0} where
   keep-no : (test : A → Bool) (xs : List A) (x : A) → test x ≡ false → keep test (xs ++ x ∷ []) ≡ keep test xs
   keep-no test [] x e = rw e
   keep-no test (y ∷ ys) x e = rw (keep-no test ys x e)
-
-  pub keep-mem : (test : A → Bool) (xs : List A) (x : A) → List·Memᴰ x (keep test xs) → List·Memᴰ x xs
-  keep-mem test [] x m = m
-  keep-mem test (y ∷ ys) x m = go (test y) (λ k. keep-mem test ys x k) m
-    where
-      under : (List·Memᴰ x (keep test ys) → List·Memᴰ x ys) → List·Memᴰ x (y ∷ keep test ys) → List·Memᴰ x (y ∷ ys)
-      under h (List·Memᴰ·head e) = List·Memᴰ·head e
-      under h (List·Memᴰ·tail k) = List·Memᴰ·tail (h k)
-
-      go : (b : Bool) → (List·Memᴰ x (keep test ys) → List·Memᴰ x ys) → List·Memᴰ x (cond b (y ∷ keep test ys) (keep test ys)) → List·Memᴰ x (y ∷ ys)
-      go true h k = under h k
-      go false h k = List·Memᴰ·tail (h k)
-
-  mem-take : (k : ℕ) (xs : List A) (x : A) → List·Memᴰ x (take k xs) → List·Memᴰ x xs
-  mem-take k xs x m = subst (λ ys. List·Memᴰ x ys) (take-append-drop k xs) (Memᴰ·append-left (drop k xs) m)
 
 -- ---- one set more
 
@@ -146,10 +131,10 @@ module _ (p : Plan) (rs : List ℕ) (G : Tabled p rs) (f : ℕ) (some : 1 ≤ f)
   module _ (i k : ℕ) where
     pub largest-short : ShortDenominator (before p rs i f k .largest)
     unfolding ratiosOf
-    largest-short = ratios-small (take k (setsOf (columns p) f)) (λ I m. mem-take k (setsOf (columns p) f) I m) .0
+    largest-short = ratios-small (take k (setsOf (columns p) f)) (λ I m. take-mem k (setsOf (columns p) f) I m) .0
 
     pub held-short : ShortDenominator (before p rs i f k .held)
     unfolding ratiosOf
     held-short =
         ratios-small (keep (holds i) (take k (setsOf (columns p) f)))
-        (λ I m. mem-take k (setsOf (columns p) f) I (keep-mem (holds i) (take k (setsOf (columns p) f)) I m)) .0
+        (λ I m. take-mem k (setsOf (columns p) f) I (keep-mem (holds i) (take k (setsOf (columns p) f)) I m)) .0

@@ -1,5 +1,5 @@
 -- Sums over the sets of columns: over all sets of j members they are the elementary symmetric sums, worked out a member at a time.
-use mathlib.Core.Path.{_≡_, refl, sym, ap}
+use mathlib.Core.Path.{_≡_, refl, sym}
 use mathlib.Core.List.{List, [], _∷_, _++_, map, List·Memᴰ, List·Memᴰ·head, List·Memᴰ·tail}
 use Prim.Native.Nat.{ℕ, zero, suc, _<_}
 use native.Mathlib.Omega.{arith}
@@ -69,27 +69,3 @@ module _ {A : Type 0} where
   esp-snoc zero (y ∷ xs) x f = rw (esp-snoc zero xs x f) (sym (+ℤ-assoc (f y *ℤ pos 1) (esp 1 xs f) (f x *ℤ pos 1)))
   esp-snoc (suc j) (y ∷ xs) x f =
       rw (esp-snoc j xs x f, esp-snoc (suc j) xs x f) (regroup (f x) (f y) (esp j xs f) (esp (suc j) xs f) (esp (suc (suc j)) xs f))
-
--- in a row of sums each becomes itself plus x times the one before it
-abbrev pub carry : ℤ → ℤ → List ℤ → List ℤ
-carry x a [] = []
-carry x a (b ∷ bs) = (b +ℤ x *ℤ a) ∷ carry x b bs
-
-abbrev pub widen : ℤ → List ℤ → List ℤ
-widen x [] = []
-widen x (a ∷ bs) = a ∷ carry x a bs
-
-module _ {A : Type 0} where
-  -- the n sums from length j on
-  abbrev pub espsFrom : ℕ → ℕ → List A → (A → ℤ) → List ℤ
-  espsFrom j zero xs f = []
-  espsFrom j (suc n) xs f = esp j xs f ∷ espsFrom (suc j) n xs f
-
-  carry-esps : (j n : ℕ) (xs : List A) (x : A) (f : A → ℤ) →
-      carry (f x) (esp j xs f) (espsFrom (suc j) n xs f) ≡ espsFrom (suc j) n (xs ++ x ∷ []) f
-  carry-esps j zero xs x f = refl
-  carry-esps j (suc n) xs x f = rw (esp-snoc j xs x f, carry-esps (suc j) n xs x f)
-
-  pub widen-esps : (n : ℕ) (xs : List A) (x : A) (f : A → ℤ) →
-      widen (f x) (espsFrom zero (suc n) xs f) ≡ espsFrom zero (suc n) (xs ++ x ∷ []) f
-  widen-esps n xs x f = ap (λ l. pos 1 ∷ l) (carry-esps zero n xs x f)

@@ -1,6 +1,6 @@
 -- The binomials: how many sets there are, how large a binomial is, and Pascal's rule over the whole table by one computation.
 use mathlib.Core.Path.{_≡_, refl, _∙_, ap}
-use mathlib.Core.List.{List, [], _∷_, _++_, map, List·Memᴰ, List·Memᴰ·head, List·Memᴰ·tail}
+use mathlib.Core.List.{List, [], _∷_, _++_, map}
 use Prim.Native.Nat.{ℕ, zero, suc, _+_, _*_, _≤_, _<_}
 use native.Mathlib.Nat.{add-zero, zero-add}
 use native.Mathlib.Decide.{decLe}
@@ -11,14 +11,10 @@ use lib.Seq.{getD-append-add}
 use Rattle.exact.specs.Lists.{from, all}
 use Rattle.exact.proofs.Numbers.{length-from}
 use Rattle.exact.proofs.Tests.{all-mem}
+use Rattle.exact.proofs.Members.{getD-mem}
 use Rattle.sets.specs.Sets.{choose, binom}
 
 module _ {A : Type 0} where
-  pub getD-mem : (xs : List A) (k : ℕ) (d : A) → k < length xs → List·Memᴰ (getD xs k d) xs
-  getD-mem [] k d h = absurd (omega arith)
-  getD-mem (x ∷ xs) zero d h = List·Memᴰ·head refl
-  getD-mem (x ∷ xs) (suc k) d h = List·Memᴰ·tail (getD-mem xs k d (omega arith))
-
   pub length-choose : (j : ℕ) (xs : List A) → length (choose j xs) ≡ binom (length xs) j
   length-choose zero xs = refl
   length-choose (suc j) [] = refl

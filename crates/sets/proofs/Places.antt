@@ -13,10 +13,11 @@ use lib.Seq.{getD-append-add, take-at}
 use Rattle.exact.specs.Lists.{from, filledTo, same}
 use Rattle.exact.proofs.Numbers.{mem-from, map-places}
 use Rattle.exact.proofs.Tests.{both, join, is-true}
+use Rattle.exact.proofs.Members.{getD-mem}
 use Rattle.rules.specs.Refusals.{isSet}
 use Rattle.sets.specs.Sets.{choose, binom, position, setsOf, setAt, placeOf}
 use Rattle.sets.proofs.Parts.{Part, none, skip, keep, part-mem, choose-part, part-choose}
-use Rattle.sets.proofs.Pascal.{many-sets, getD-mem}
+use Rattle.sets.proofs.Pascal.{many-sets}
 use Rattle.sets.proofs.Rising.{set-part, part-set}
 
 -- ---- a list's place in a list of lists

@@ -10,7 +10,8 @@ use lib.IntN.{pos}
 use lib.ListN.{length, getD}
 use Rattle.exact.specs.Lists.{from, keep, holds}
 use Rattle.exact.proofs.Numbers.{mem-from}
-use Rattle.exact.proofs.Tests.{not-true, true-is, both}
+use Rattle.exact.proofs.Tests.{not-true, true-is, both, clash}
+use Rattle.exact.proofs.Members.{holds-mem, keep-mem}
 use Rattle.rules.specs.Plan.{Plan, plan, columns, level, entry, everyColumn, mostRuns}
 use Rattle.rules.specs.declared.Refusal.{Refusal}
 use Rattle.rules.proofs.Order.{passed-none}
@@ -28,7 +29,6 @@ use Rattle.resolution.specs.Resolution.{greatest, resolution, largestRatio, res
 use Rattle.resolution.specs.Charts.{chartOf, chartAnswer, columnRatio, figureAnswer}
 use Rattle.compare.specs.Compare.{patternOf, compareAnswer}
 use Rattle.advice.specs.Advice.{without, unbeaten, firstRun, advice, inTurn}
-use Rattle.resolution.proofs.Walk.{keep-mem}
 use Rattle.held.specs.declared.Held.{Held}
 use Rattle.held.specs.Held.{standing, marksIn, planIn, standingIn, IsHeld, Call, strikes, callChecks, callAnswer}
 use Rattle.standing.specs.Alike.{Alike}
@@ -52,23 +52,10 @@ use Rattle.standing.specs.Answers.{
   turnsAnswer,
   heldTurns,
 }
-use Rattle.held.proofs.Standing.{clash, fewer-stand}
+use Rattle.held.proofs.Standing.{fewer-stand}
 use Rattle.held.proofs.Marks.{marksAfter, after-ind}
 use Rattle.held.proofs.History.{marks-after, call-plan}
-use Rattle.standing.proofs.Seen.{
-  Agree,
-  holds-mem,
-  word-seen,
-  row-seen,
-  set-seen,
-  strength-seen,
-  absolute-seen,
-  relative-seen,
-  resolution-seen,
-  ratio-seen,
-  pattern-seen,
-  column-seen,
-}
+use Rattle.standing.proofs.Seen.{Agree, word-seen, row-seen, set-seen, strength-seen, absolute-seen, relative-seen, resolution-seen, ratio-seen, pattern-seen, column-seen}
 
 -- two tables with the same entries in these runs
 abbrev pub SameShown : List ℕ → List ℕ → List ℕ → List ℕ → Type 0

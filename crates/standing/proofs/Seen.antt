@@ -1,9 +1,8 @@
 -- Each measure of some runs and columns sees only the entries of those runs in those columns.
 use mathlib.Core.Path.{_≡_, refl, sym, _∙_, ap, ap₂, fun-ext}
-use mathlib.Core.Bool.{Bool, true, false, _&&_, _||_}
+use mathlib.Core.Bool.{Bool, _&&_}
 use mathlib.Core.List.{List, [], _∷_, map, List·Memᴰ, List·Memᴰ·head, List·Memᴰ·tail}
 use Prim.Native.Nat.{ℕ, _*_, _-_}
-use borrow.Author.Tests.{eqb-true}
 use lib.Dec.{eqb}
 use lib.IntN.{ℤ, pos, natAbs}
 use lib.ListN.{length}
@@ -12,6 +11,7 @@ use Rattle.exact.specs.Lists.{from, prod, all, keep, holds, largest, alike, fir
 use Rattle.exact.specs.Fractions.{reduced}
 use Rattle.exact.proofs.Lists.{map-cong-in}
 use Rattle.exact.proofs.Sums.{sum-cong-in}
+use Rattle.exact.proofs.Members.{keep-mem}
 use Rattle.rules.specs.Plan.{level, entry}
 use Rattle.sets.specs.Sets.{choose}
 use Rattle.sets.proofs.Parts.{part-mem, choose-part}
@@ -21,10 +21,8 @@ use Rattle.counts.specs.Counts.{combinations, shows, even, balanced, strength}
 use Rattle.counts.proofs.Numbered.{count-cong-in}
 use Rattle.projections.specs.Projections.{valueOf, relativeOf}
 use Rattle.frequencies.specs.Frequencies.{tableOf, absoluteTable, relativeTable}
-use Rattle.resolution.proofs.Walk.{keep-mem}
 use Rattle.resolution.specs.Resolution.{greatest, resolution, largestRatio}
 use Rattle.compare.specs.Compare.{over, A, pattern}
-use Rattle.held.proofs.Standing.{clash}
 
 -- the same entries in these runs and columns
 abbrev pub Agree : (ℕ → ℕ → ℕ) → (ℕ → ℕ → ℕ) → List ℕ → List ℕ → Type 0
@@ -42,14 +40,6 @@ module _ {A : Type 0} where
   all-cong-in [] h = refl
   all-cong-in (x ∷ xs) {f} {g} h =
       ap₂ (λ a b. a && b) (h x (List·Memᴰ·head refl)) (all-cong-in xs {f = f} {g = g} (λ y m. h y (List·Memᴰ·tail m)))
-
-pub holds-mem : (x : ℕ) (xs : List ℕ) → holds x xs ≡ true → List·Memᴰ x xs
-holds-mem x [] e = clash false e refl
-holds-mem x (y ∷ ys) e = go (eqb x y) refl e (λ d. holds-mem x ys d)
-  where
-    go : (b : Bool) → eqb x y ≡ b → (b || holds x ys) ≡ true → (holds x ys ≡ true → List·Memᴰ x ys) → List·Memᴰ x (y ∷ ys)
-    go true p q ih = List·Memᴰ·head (eqb-true x y p)
-    go false p q ih = List·Memᴰ·tail (ih q)
 
 -- ---- each measure sees only the entries of its runs in its columns
 

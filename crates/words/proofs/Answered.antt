@@ -9,7 +9,7 @@ use lib.ListN.{getD, take, replicate}
 use lib.Seq.{take-at}
 use lib.IntN.{pos}
 use Rattle.exact.specs.Lists.{from, product}
-use Rattle.exact.proofs.Numbers.{length-from}
+use Rattle.exact.proofs.Numbers.{length-from, map-from-at}
 use Rattle.rules.specs.declared.Refusal.{Refusal}
 use Rattle.rules.specs.Plan.{Plan, plan, columns, level, entry, everyColumn, mostColumns, mostRuns, highestProduct}
 use Rattle.rules.specs.Refusals.{Check, refusal, unless, ofPlan, accepted, levelChecks, badColumns, badLevel, badProduct, planChecks}
@@ -19,7 +19,6 @@ use Rattle.plan.specs.Good.{Sound}
 use Rattle.plan.proofs.Checks.{columns-passed, levels-passed, passed-good, good-passed, plan-refused, plan-passed}
 use Rattle.words.specs.Words.{word}
 use Rattle.words.specs.Answers.{wordList}
-use Rattle.words.proofs.Rows.{map-from-at}
 
 -- ---- an answer is made of the call's refusal q and the value, which is blank in a refusal
 

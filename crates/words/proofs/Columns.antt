@@ -10,14 +10,14 @@ use lib.ListN.{length, getD, replicate, List·getD-eq-default}
 use lib.Seq.{ext-getD}
 use lib.IntN.{ℤ, pos, natAbs}
 use Rattle.exact.specs.Lists.{from, product}
-use Rattle.exact.proofs.Numbers.{length-from, mem-from, from-add, from-snoc}
+use Rattle.exact.proofs.Numbers.{length-from, mem-from, from-add, from-snoc, length-map-from, map-from-at}
 use Rattle.rules.specs.Plan.{Plan, columns, level, everyColumn, mostColumns, highestProduct}
 use Rattle.plan.specs.Good.{Sound}
 use Rattle.plan.proofs.Sound.{map-level}
 use Rattle.sets.proofs.Choose.{esp, esp-snoc, esp-above}
 use Rattle.words.specs.Given.{OfColumns, withColumn}
 use Rattle.words.proofs.Bound.{product-pos, esp-bound}
-use Rattle.words.proofs.Rows.{length-map-from, map-from-at, length-withColumn, withColumn-first, withColumn-next}
+use Rattle.words.proofs.Rows.{length-withColumn, withColumn-first, withColumn-next}
 
 module _ (x : ℕ → ℤ) where
   -- the sums over the first i columns, of length 0 to 24, where column i has the number x i

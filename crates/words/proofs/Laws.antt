@@ -135,16 +135,6 @@ module _ {R C : Type 0} (level : C → ℕ) (entry : R → C → ℕ) where
       rw (word-pairs (ps ++ qs) cols j, word-pairs (ps ++ f ∷ qs) cols j, row-pairs (ps ++ qs) cols j f, ← (pair-self cols j f))
       (total-with (pairSum level entry cols j) (pair-sym cols j) ps f qs)
 
-  -- the same of one set of columns
-  pub strike-set : (ps : List R) (f : R) (qs : List R) (I : List C) →
-      wordOf level entry (ps ++ qs) I
-      ≡ wordOf level entry (ps ++ f ∷ qs) I -ℤ pos 2 *ℤ sum (ps ++ f ∷ qs) (λ g. prod I (scoreAt level entry f g))
-      +ℤ prod I (λ i. pos (level i) -ℤ pos 1)
-  unfolding wordOf
-  strike-set ps f qs I =
-      rw (← (prod-cong I (λ i. score-same (level i) (entry f i))))
-      (total-without (λ f g. prod I (scoreAt level entry f g)) (λ f g. prod-cong I (λ i. score-sym (level i) (entry f i) (entry g i))) ps f qs)
-
   -- ---- a length above the number of columns has no sets, and no word
 
   pub pair-above : (cols : List C) (j : ℕ) → length cols < j → (f g : R) → pairSum level entry cols j f g ≡ pos 0

@@ -12,7 +12,7 @@ use lib.Dec.{eqb}
 use lib.ListN.{length, getD, set, take, length-set}
 use lib.Seq.{ext-getD, getD-set-same, getD-set-other, take-suc}
 use Rattle.exact.specs.Lists.{from, holds}
-use Rattle.words.proofs.Rows.{length-map-from, map-from-at}
+use Rattle.exact.proofs.Numbers.{length-map-from, map-from-at}
 
 ||-assoc : (a b c : Bool) → (a || (b || c)) ≡ ((a || b) || c)
 ||-assoc true b c = refl

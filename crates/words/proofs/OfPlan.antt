@@ -9,7 +9,7 @@ use lib.IntN.{ℤ, pos, natAbs, _-ℤ_}
 use lib.ListN.{length, take, drop, replicate}
 use lib.Signed.{_≤ℤ_}
 use Rattle.exact.specs.Lists.{product}
-use Rattle.exact.proofs.Numbers.{length-from, mem-from, mul-below}
+use Rattle.exact.proofs.Numbers.{length-from, mem-from, mul-below, map-from-cong}
 use Rattle.rules.specs.Plan.{Plan, columns, level, entry, everyColumn, mostRuns, highestProduct}
 use Rattle.plan.specs.Good.{Sound}
 use Rattle.words.specs.Words.{scoreAt, pairSum, rowSum, word, diagonal}
@@ -19,7 +19,6 @@ use Rattle.words.proofs.Laws.{pair-esp, diagonal-esp, row-pairs, word-r
 use Rattle.words.proofs.Bound.{BelowLevels, score-bound, diagonal-bound, pair-bound, row-bound, word-bound}
 use Rattle.words.proofs.Positive.{word-nonneg}
 use Rattle.words.proofs.Columns.{soFar, level-product}
-use Rattle.words.proofs.Rows.{map-from-cong}
 use Rattle.words.proofs.Totals.{totals}
 use Rattle.words.proofs.Marked.{marked}
 

@@ -1,30 +1,16 @@
 -- Rows of sums by word length, over plain lists: one column more, in place.
-use mathlib.Core.Path.{_≡_, refl, sym, _∙_, ap, fun-ext}
-use mathlib.Core.List.{List, _++_, map}
-use Prim.Native.Nat.{ℕ, zero, suc, _+_, _-_, _≤_, _<_}
-use native.Mathlib.Nat.{add-zero, add-suc, suc-add, zero-add}
+use mathlib.Core.Path.{_≡_, refl, sym, _∙_, ap}
+use mathlib.Core.List.{List, _++_}
+use Prim.Native.Nat.{ℕ, suc, _+_, _-_, _≤_, _<_}
+use native.Mathlib.Nat.{zero-add}
 use native.Mathlib.Numerals.{add-one}
 use native.Mathlib.Omega.{arith}
-use lib.ListN.{length, getD, set, take, drop, length-drop, length-map, take-append-drop, List·getD-append}
+use lib.ListN.{length, getD, set, take, drop, length-drop, take-append-drop, List·getD-append}
 use lib.Seq.{ext-getD, getD-drop, getD-take, take-suc, drop-cons, length-take-le, append-snoc, set-at}
 use lib.IntN.{ℤ, pos, _+ℤ_, _*ℤ_, *ℤ-zero}
-use Rattle.exact.specs.Lists.{from}
-use Rattle.exact.proofs.Numbers.{length-from}
+use Rattle.exact.proofs.Numbers.{length-map-from, map-from-at}
 use Rattle.rules.specs.Plan.{mostColumns}
 use Rattle.words.specs.Given.{OfColumns, withColumn}
-
-module _ {A : Type 0} (F : ℕ → A) where
-  pub length-map-from : (a n : ℕ) → length (map F (from a n)) ≡ n
-  length-map-from a n = length-map (from a n) F ∙ length-from a n
-
-  pub map-from-at : (a n k : ℕ) (d : A) → k < n → getD (map F (from a n)) k d ≡ F (a + k)
-  map-from-at a zero k d h = absurd (omega arith)
-  map-from-at a (suc n) zero d h = ap F (sym (add-zero a))
-  map-from-at a (suc n) (suc k) d h = map-from-at (suc a) n k d (omega arith) ∙ ap F (suc-add a k ∙ sym (add-suc a k))
-
-module _ {A : Type 0} {F G : ℕ → A} where
-  pub map-from-cong : (a n : ℕ) → ((k : ℕ) → F k ≡ G k) → map F (from a n) ≡ map G (from a n)
-  map-from-cong a n h = ap (λ f. map f (from a n)) (fun-ext h)
 
 -- ---- a list turned into another of the same length from its end on: the first k places are the old ones
 

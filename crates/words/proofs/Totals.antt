@@ -1,7 +1,7 @@
 -- Sums over the runs so far, for each word length: a row over its pairs, the words over the rows.
 use mathlib.Core.Path.{_≡_, refl, sym, _∙_, ap}
-use mathlib.Core.List.{List, [], _∷_, _++_, List·Memᴰ, List·Memᴰ·head, List·Memᴰ·tail, List·Memᴰ·not-nil}
-use Prim.Native.Nat.{ℕ, zero, suc, _+_, _*_, _≤_, _<_}
+use mathlib.Core.List.{List, [], _∷_, _++_, List·Memᴰ}
+use Prim.Native.Nat.{ℕ, _+_, _*_, _≤_, _<_}
 use native.Mathlib.Decide.{decLt}
 use native.Mathlib.Nat.{le-trans, mul-le-mul-right}
 use native.Mathlib.Numerals.{add-one}
@@ -11,20 +11,12 @@ use lib.Seq.{take-suc}
 use lib.IntN.{ℤ, pos, natAbs, _+ℤ_, +ℤ-idl, +ℤ-idr}
 use Rattle.exact.specs.Lists.{sum}
 use Rattle.exact.proofs.Sums.{sum-++}
+use Rattle.exact.proofs.Members.{take-mem}
+use Rattle.exact.proofs.Numbers.{length-map-from, map-from-at, map-from-cong}
 use Rattle.rules.specs.Plan.{mostColumns, mostRuns}
 use Rattle.words.specs.Given.{Row, added}
 use Rattle.words.specs.Answers.{byLength, zeros}
 use Rattle.words.proofs.Bound.{sum-bound}
-use Rattle.words.proofs.Rows.{length-map-from, map-from-at, map-from-cong}
-
--- ---- members of a list
-
-module _ {A : Type 0} where
-  pub take-mem : (k : ℕ) (xs : List A) (x : A) → List·Memᴰ x (take k xs) → List·Memᴰ x xs
-  take-mem zero xs x m = absurd (List·Memᴰ·not-nil m)
-  take-mem (suc k) [] x m = m
-  take-mem (suc k) (y ∷ ys) x (List·Memᴰ·head e) = List·Memᴰ·head e
-  take-mem (suc k) (y ∷ ys) x (List·Memᴰ·tail m) = List·Memᴰ·tail (take-mem k ys x m)
 
 -- ---- a number for each length
 

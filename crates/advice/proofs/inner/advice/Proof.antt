@@ -8,8 +8,8 @@ use native.Mathlib.Omega.{arith}
 use borrow.Author.Needs.{needs}
 use lib.ListN.{length, getD}
 use Rattle.exact.specs.Fractions.{isBetter}
+use Rattle.exact.proofs.Members.{getD-mem}
 use Rattle.rules.specs.Plan.{Plan, plan}
-use Rattle.sets.proofs.Pascal.{getD-mem}
 use Rattle.advice.proofs.Largest.{rowOrder}
 use Rattle.advice.proofs.Best.{Best, best-first, best-next, best-all, length-place, rows-order}
 use Rattle.advice.proofs.inner.advice.Statement.{statement}

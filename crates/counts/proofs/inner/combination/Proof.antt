@@ -7,8 +7,8 @@ use native.Mathlib.Omega.{arith}
 use lib.ListN.{length, getD, take}
 use lib.Seq.{take-all}
 use Rattle.exact.proofs.Numbers.{mul-below}
+use Rattle.exact.proofs.Members.{getD-mem}
 use Rattle.rules.specs.Plan.{plan, level, entry}
-use Rattle.sets.proofs.Pascal.{getD-mem}
 use Rattle.counts.specs.Numbered.{numberOf}
 use Rattle.counts.proofs.Turns.{number-next, number-small}
 use Rattle.counts.proofs.inner.combination.Statement.{statement}

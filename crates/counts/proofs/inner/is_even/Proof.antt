@@ -3,7 +3,7 @@ use mathlib.Core.Path.{_≡_, sym, _∙_}
 use native.Mathlib.Omega.{arith}
 use lib.Seq.{length-take-le}
 use Rattle.rules.specs.Plan.{plan, level, entry}
-use Rattle.counts.specs.Numbered.{productOf, tallies}
+use Rattle.counts.specs.Numbered.{productOf}
 use Rattle.counts.proofs.Counted.{too-many}
 use Rattle.counts.proofs.Turns.{all-below, even-tallies}
 use borrow.Author.Needs.{needs}

@@ -8,8 +8,8 @@ use native.Mathlib.Omega.{arith}
 use lib.ListN.{length, getD, take}
 use lib.Seq.{take-all}
 use Rattle.exact.proofs.Numbers.{mul-below}
+use Rattle.exact.proofs.Members.{getD-mem}
 use Rattle.rules.specs.Plan.{plan, level}
-use Rattle.sets.proofs.Pascal.{getD-mem}
 use Rattle.counts.specs.Numbered.{productOf}
 use Rattle.counts.proofs.Turns.{product-next, product-above}
 use Rattle.counts.proofs.inner.product_of.Statement.{statement}

@@ -6,9 +6,9 @@ use Prim.Native.Nat.{_-_, _≤_, _<_}
 use native.Mathlib.Omega.{arith}
 use lib.ListN.{length, getD, take, length-set}
 use lib.Seq.{take-all, length-take-le}
+use Rattle.exact.proofs.Members.{getD-mem}
 use Rattle.rules.specs.Plan.{plan, level, entry}
 use Rattle.plan.specs.Good.{Sound}
-use Rattle.sets.proofs.Pascal.{getD-mem}
 use Rattle.words.proofs.OfPlan.{sound-run}
 use Rattle.counts.specs.Numbered.{numberOf, tallies}
 use Rattle.counts.proofs.Turns.{number-one, tally-bound, tallies-next}

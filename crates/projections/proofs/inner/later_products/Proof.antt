@@ -9,8 +9,8 @@ use mir.Syntax.{w64}
 use mir.Val.{toZ, ofZ}
 use Rattle.exact.specs.Lists.{sum}
 use Rattle.exact.proofs.Bits.{of}
+use Rattle.exact.proofs.Members.{getD-mem}
 use Rattle.rules.specs.Plan.{Plan, plan, columns, mostRuns, mostColumns}
-use Rattle.sets.proofs.Pascal.{getD-mem}
 use Rattle.projections.specs.Given.{pairOf}
 use Rattle.projections.proofs.SetWords.{run-starts, start-small, row-none, row-small, row-turn}
 use Rattle.projections.proofs.inner.later_products.Statement.{statement}

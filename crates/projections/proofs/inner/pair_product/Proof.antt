@@ -9,8 +9,8 @@ use mir.Syntax.{w64}
 use mir.Val.{toZ, ofZ}
 use borrow.Author.Needs.{needs}
 use Rattle.exact.proofs.Bits.{of}
+use Rattle.exact.proofs.Members.{getD-mem}
 use Rattle.rules.specs.Plan.{Plan, plan}
-use Rattle.sets.proofs.Pascal.{getD-mem}
 use Rattle.projections.specs.Given.{productOf}
 use Rattle.projections.proofs.Products.{product-none, product-small, product-turn}
 use Rattle.projections.proofs.inner.pair_product.Statement.{statement}

@@ -10,8 +10,8 @@ use mir.Val.{toZ, ofZ}
 use Rattle.exact.specs.Lists.{sum}
 use Rattle.exact.proofs.Bits.{of}
 use Rattle.exact.proofs.Order.{natAbs-+, natAbs-*}
+use Rattle.exact.proofs.Members.{getD-mem}
 use Rattle.rules.specs.Plan.{Plan, plan, level, entry, mostRuns, highestProduct}
-use Rattle.sets.proofs.Pascal.{getD-mem}
 use Rattle.words.specs.Words.{wordOf}
 use Rattle.projections.specs.Given.{pairOf}
 use Rattle.projections.proofs.SetWords.{run-starts, start-small, row-small, word-none, word-small, word-turn}

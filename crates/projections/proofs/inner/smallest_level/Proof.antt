@@ -6,7 +6,7 @@ use native.Mathlib.Nat.{min-eq-left, min-eq-right}
 use native.Mathlib.Omega.{arith}
 use lib.ListN.{length, getD, drop}
 use Rattle.exact.specs.Lists.{smallest}
-use Rattle.sets.proofs.Pascal.{getD-mem}
+use Rattle.exact.proofs.Members.{getD-mem}
 use Rattle.projections.proofs.Values.{smallest-last, smallest-turn}
 use Rattle.projections.proofs.inner.smallest_level.Statement.{statement}
 use Rattle.projections.proofs.inner.smallest_level.Tie as tie

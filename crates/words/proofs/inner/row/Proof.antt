@@ -6,11 +6,11 @@ use native.Mathlib.Omega.{arith}
 use lib.IntN.{ℤ, natAbs}
 use lib.ListN.{length, getD, take, drop}
 use lib.Seq.{take-length}
+use Rattle.exact.proofs.Members.{getD-mem}
 use Rattle.rules.specs.Plan.{Plan, plan, highestProduct}
 use Rattle.words.proofs.Totals.{by-length-row, totals, totals-none, totals-next, totals-row}
 use Rattle.words.specs.Given.{added}
 use Rattle.words.specs.Answers.{byLength}
-use Rattle.sets.proofs.Pascal.{getD-mem}
 use Rattle.plan.specs.Good.{Sound}
 use Rattle.words.proofs.OfPlan.{ofPair, pair-longer, row-totals, sound-run, pair-small}
 use Rattle.words.proofs.inner.row.Statement.{statement}

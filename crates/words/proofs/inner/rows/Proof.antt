@@ -5,8 +5,8 @@ use Prim.Native.Nat.{ℕ, _-_, _≤_, _<_}
 use native.Mathlib.Omega.{arith}
 use lib.ListN.{length, getD, set, take}
 use lib.Seq.{take-length}
+use Rattle.exact.proofs.Members.{getD-mem}
 use Rattle.rules.specs.Plan.{Plan, plan, mostRuns}
-use Rattle.sets.proofs.Pascal.{getD-mem}
 use Rattle.words.proofs.Marked.{marked, marked-next}
 use Rattle.words.proofs.OfPlan.{place, rows-none, rows-marked, sound-run}
 use Rattle.words.proofs.inner.rows.Statement.{statement}

@@ -7,8 +7,8 @@ use native.Mathlib.Omega.{arith}
 use lib.IntN.{ℤ, natAbs}
 use lib.ListN.{length, getD, take}
 use lib.Seq.{take-length}
+use Rattle.exact.proofs.Members.{getD-mem}
 use Rattle.rules.specs.Plan.{Plan, plan, mostRuns, highestProduct}
-use Rattle.sets.proofs.Pascal.{getD-mem}
 use Rattle.plan.specs.Good.{Sound}
 use Rattle.words.specs.Given.{added}
 use Rattle.words.specs.Answers.{byLength}
