@@ -14,7 +14,7 @@ use Rattle.rules.proofs.Order.{known, number-most, passed-none, none-passed}
 use Rattle.plan.proofs.Checks.{passed-good}
 use Rattle.words.specs.Answers.{wordAnswer}
 use Rattle.frequencies.specs.declared.TableAnswer.{TableAnswer}
-use Rattle.frequencies.specs.Frequencies.{Line, Rooms, shortest, absoluteTable, relativeTable, tableIn, tableRefusal, tableAnswer}
+use Rattle.frequencies.specs.Frequencies.{Line, Rooms, shortest, tableRefusal, tableAnswer}
 use Rattle.resolution.specs.declared.GeneralizedAnswer.{GeneralizedAnswer}
 use Rattle.resolution.specs.Resolution.{resolutionIn, ratioIn, ratioChecksIn, thousandthsOf, generalizedAnswer}
 use Rattle.resolution.proofs.Resolved.{resolution-is}
@@ -76,16 +76,6 @@ module _ (p : Plan) (f : ℕ) (ls : List Line) (R : Rooms) {a : TableAnswer} (e 
       go false q =
           let fits = ltb-false (shortest R) (length ls) (passes (tableRefusal (ofPlan p) (columns p) f ls R) tt q _ room) in
           omega arith
-
--- the table that is asked for
-module _ (p : Plan) (f : ℕ) {b : Bool} where
-  pub relative-in : b ≡ true → tableIn b p (everyRun p) f ≡ relativeTable (level p) (entry p) (everyRun p) (everyColumn p) f
-  unfolding tableIn relativeTable
-  relative-in e = rw e
-
-  pub absolute-in : b ≡ false → tableIn b p (everyRun p) f ≡ absoluteTable (level p) (entry p) (everyRun p) (everyColumn p) f
-  unfolding tableIn absoluteTable
-  absolute-in e = rw e
 
 -- ---- generalized resolution
 

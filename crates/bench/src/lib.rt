@@ -1,14 +1,13 @@
 // What the benchmark and the tests call beside the planner's exports: functions on byte slices and numbers (bench/exports.h).
 // Each answers a number, or the refusal number negated.
 use exact::signed;
-use frequencies::TableAnswer;
 use held::Held;
 use rules::Refusal;
 ghost use mathlib.Core.Path.{_≡_};
 ghost use Prim.Native.Nat.{_≤_};
 ghost use Rattle.rules.specs.Plan.{plan, columns, everyRun};
 ghost use Rattle.rules.specs.Refusals.{ofPlan};
-ghost use Rattle.frequencies.specs.Frequencies.{rooms, tableIn, tableAnswer, tableRooms};
+ghost use Rattle.frequencies.specs.Frequencies.{rooms, tableIn, tableRooms};
 ghost use Rattle.held.specs.Held.{IsHeld};
 ghost use Rattle.bench.specs.Exports.{numberOf, rounds, strikesNumber, tableNumber, ratioNumber};
 
@@ -53,30 +52,6 @@ pub extern "C" fn bench_strikes(levels: &[u8], table: &[u8], length: u64, times:
     number_of(opened.refused, number_of(answer.refused, answer.word))
 }
 
-// The table that is asked for, relative or not.
-fn frequencies(
-    levels: &[u8],
-    table: &[u8],
-    f: usize,
-    relative: bool,
-    nums: &mut [u64],
-    dens: &mut [u64],
-    counts: &mut [u64],
-) -> TableAnswer
-    ensures answer { λ r. ⌜ (let p = plan (now (levels .entry)) (now (table .entry)) in
-        let R = rooms (now (nums .entry)) (now (dens .entry)) (now (counts .entry)) in
-        r ≡ tableAnswer (ofPlan p) (columns p) f (tableIn relative p (everyRun p) f) R) ⌝ }
-    ensures rooms { λ _. ⌜ (let p = plan (now (levels .entry)) (now (table .entry)) in
-        let R = rooms (now (nums .entry)) (now (dens .entry)) (now (counts .entry)) in
-        rooms (now (nums .exit)) (now (dens .exit)) (now (counts .exit)) ≡
-        tableRooms (ofPlan p) (columns p) f (tableIn relative p (everyRun p) f) R) ⌝ }
-{
-    if relative {
-        return frequencies::relative(levels, table, f, nums, dens, counts);
-    }
-    frequencies::absolute(levels, table, f, nums, dens, counts)
-}
-
 // The table for size f, put into the lent rooms: the number of its lines.
 #[no_mangle]
 pub extern "C" fn bench_table(
@@ -96,7 +71,7 @@ pub extern "C" fn bench_table(
         rooms (now (nums .exit)) (now (dens .exit)) (now (counts .exit)) ≡
         tableRooms (ofPlan p) (columns p) f (tableIn relative p (everyRun p) f) R) ⌝ }
 {
-    let answer = frequencies(levels, table, f as usize, relative, nums, dens, counts);
+    let answer = frequencies::frequencies(levels, table, f as usize, relative, nums, dens, counts);
     number_of(answer.refused, signed::of_size(answer.lines))
 }
 

@@ -15,7 +15,7 @@ pub struct TableAnswer {
 }
 
 // The table for size f, absolute or relative, of every run of a plan.
-fn frequencies(
+pub fn frequencies(
     levels: &[u8],
     table: &[u8],
     f: usize,
