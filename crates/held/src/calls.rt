@@ -6,13 +6,14 @@ use crate::inner::factor;
 use crate::inner::standing_runs;
 use crate::measures::diagonal_of;
 use crate::measures::row_of;
+use exact::bytes::copy;
 use rules::Refusal;
 ghost use mathlib.Core.Path.{_≡_};
 ghost use mathlib.Core.Bool.{true, false};
 ghost use Prim.Native.Nat.{_≤_};
-ghost use lib.ListN.{length, replicate};
+ghost use lib.ListN.{replicate};
 ghost use Rattle.exact.specs.Lists.{filledTo};
-ghost use Rattle.rules.specs.Plan.{plan, runs, mostColumns, mostRuns};
+ghost use Rattle.rules.specs.Plan.{plan, runs, mostRuns};
 ghost use Rattle.plan.specs.Good.{Good};
 ghost use Rattle.held.specs.Held.{IsHeld, heldOf, emptyHeld, openAnswer, strikes, reinstates, remarked, callAnswer};
 ghost use Rattle.held.specs.Given.{Changes};
@@ -33,28 +34,6 @@ fn empty() -> Held
         marks,
         words,
     }
-}
-
-fn copied_levels(levels: &[u8]) -> [u8; 24]
-    requires { ⌜ length (now levels) ≤ mostColumns ⌝ }
-    ensures { λ r. ⌜ r ≡ filledTo mostColumns 0 (now (levels .entry)) ⌝ }
-{
-    let mut held = [0u8; 24];
-    for i in 0..levels.len() {
-        held[i] = levels[i];
-    }
-    held
-}
-
-fn copied_entries(table: &[u8]) -> [u8; 6144]
-    requires { ⌜ length (now table) ≤ 6144 ⌝ }
-    ensures { λ r. ⌜ r ≡ filledTo 6144 0 (now (table .entry)) ⌝ }
-{
-    let mut held = [0u8; 6144];
-    for i in 0..table.len() {
-        held[i] = table[i];
-    }
-    held
 }
 
 // All n runs stand.
@@ -78,11 +57,15 @@ fn opened(levels: &[u8], table: &[u8]) -> Held
     let runs = table.len() / columns;
     let numbers = plan::inner::every_run(runs);
     let words = words::inner::words(levels, table, &numbers[..runs]);
+    let mut held_levels = [0u8; 24];
+    copy(levels, &mut held_levels);
+    let mut entries = [0u8; 6144];
+    copy(table, &mut entries);
     Held {
         columns,
         runs,
-        levels: copied_levels(levels),
-        entries: copied_entries(table),
+        levels: held_levels,
+        entries,
         marks: all_marked(runs),
         words,
     }

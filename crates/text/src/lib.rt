@@ -1,11 +1,9 @@
 // Plan text: its reader, and decimal numbers as bytes (document 01, "Plan text and the listing").
+use exact::bytes::copy;
 use reading::read_lines;
 use rules::Refusal;
 use rules::sizes::LONGEST_TEXT;
 ghost use mathlib.Core.Path.{_≡_};
-ghost use Prim.Native.Nat.{_≤_};
-ghost use lib.ListN.{length};
-ghost use Rattle.exact.specs.Lists.{into};
 ghost use Rattle.rules.specs.Plan.{plan};
 ghost use Rattle.text.specs.Text.{planOf};
 ghost use Rattle.text.specs.Reader.{planAnswer, readAnswer, refusedBy, filled};
@@ -30,17 +28,6 @@ fn refused_by(refusal: Refusal) -> ReadAnswer
         refused: refusal,
         columns: 0,
         runs: 0,
-    }
-}
-
-fn copy(numbers: &[u8], room: &mut [u8])
-    requires { ⌜ length (now numbers) ≤ length (now room) ⌝ }
-    ensures { λ _. ⌜ now (room .exit) ≡ into (now (numbers .entry)) (now (room .entry)) ⌝ }
-{
-    let mut i = 0;
-    while i < numbers.len() {
-        room[i] = numbers[i];
-        i += 1;
     }
 }
 

@@ -1,4 +1,4 @@
--- `projections::absolute` meets its contract: the table that is asked for is this one.
+-- `frequencies::absolute` meets its contract: the table that is asked for is this one.
 use Rattle.frequencies.specs.Frequencies.{tableIn, absoluteTable}
 use borrow.Author.Needs.{needs}
 use Rattle.frequencies.proofs.absolute.Statement.{statement}

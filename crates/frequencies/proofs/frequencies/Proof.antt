@@ -1,4 +1,4 @@
--- `projections::frequencies` meets its contract: a refusal is that of the plan or the size, and then of the rooms alone.
+-- `frequencies::frequencies` meets its contract: a refusal is that of the plan or the size, and then of the rooms alone.
 use mathlib.Core.List.{List}
 use Rattle.rules.specs.Plan.{Plan, plan, everyRun}
 use Rattle.frequencies.specs.Frequencies.{Line, Rooms, rooms, tableIn}

@@ -1,4 +1,4 @@
--- `projections::relative` meets its contract: the table that is asked for is this one.
+-- `frequencies::relative` meets its contract: the table that is asked for is this one.
 use Rattle.frequencies.specs.Frequencies.{tableIn, relativeTable}
 use borrow.Author.Needs.{needs}
 use Rattle.frequencies.proofs.relative.Statement.{statement}

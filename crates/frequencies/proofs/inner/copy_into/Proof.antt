@@ -1,4 +1,4 @@
--- `projections::inner::copy_into` meets its contract: the first i numbers are copied, and the rest of the room is as it was.
+-- `frequencies::inner::copy_into` meets its contract: the first i numbers are copied, and the rest of the room is as it was.
 use mathlib.Core.Path.{_≡_, refl}
 use Prim.Native.Nat.{_-_, _≤_}
 use native.Mathlib.Omega.{arith}

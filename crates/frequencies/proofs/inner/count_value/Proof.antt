@@ -1,4 +1,4 @@
--- `projections::inner::count_value` meets its contract: at the place that the search finds, the value's line, or where it is to stand.
+-- `frequencies::inner::count_value` meets its contract: at the place that the search finds, the value's line, or where it is to stand.
 use mathlib.Core.Path.{_≡_, sym, _∙_, ap}
 use mathlib.Core.Logic.{⊎-elim}
 use mathlib.Core.Bool.{false}

@@ -1,4 +1,4 @@
--- `projections::inner::frequencies` meets its contract: the table is made in arrays that hold every set, and copied only where it fits.
+-- `frequencies::inner::frequencies` meets its contract: the table is made in arrays that hold every set, and copied only where it fits.
 use mathlib.Core.Path.{_≡_, _∙_, ap}
 use mathlib.Core.List.{List}
 use Prim.Native.Nat.{_≤_, _<_, min}

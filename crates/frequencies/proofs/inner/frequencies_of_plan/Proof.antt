@@ -1,4 +1,4 @@
--- `projections::inner::frequencies_of_plan` meets its contract: what it lends are the numbers of all runs.
+-- `frequencies::inner::frequencies_of_plan` meets its contract: what it lends are the numbers of all runs.
 use mathlib.Core.Path.{_≡_, sym, _∙_, ap, subst⁻¹}
 use lib.ListN.{length, take}
 use Rattle.exact.proofs.Numbers.{length-from}

@@ -1,4 +1,4 @@
--- `projections::inner::place_of` meets its contract: what is left to search, from k on, is what the whole search finds.
+-- `frequencies::inner::place_of` meets its contract: what is left to search, from k on, is what the whole search finds.
 use mathlib.Core.Path.{_≡_, sym, _∙_, ap}
 use mathlib.Core.Bool.{not}
 use Prim.Native.Nat.{_-_, _≤_}

@@ -1,4 +1,4 @@
--- `projections::inner::put_before` meets its contract: from the end down, what stands from k on has moved up by one.
+-- `frequencies::inner::put_before` meets its contract: from the end down, what stands from k on has moved up by one.
 use mathlib.Core.Path.{_≡_, refl}
 use Prim.Native.Nat.{_≤_}
 use native.Mathlib.Omega.{arith}

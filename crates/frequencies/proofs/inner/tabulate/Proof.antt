@@ -1,4 +1,4 @@
--- `projections::inner::tabulate` meets its contract: after the sets before place k, the rooms hold the table of their values.
+-- `frequencies::inner::tabulate` meets its contract: after the sets before place k, the rooms hold the table of their values.
 use mathlib.Core.Path.{_≡_, sym, _∙_, ap}
 use mathlib.Core.List.{List}
 use Prim.Native.Nat.{ℕ, _-_, _≤_, _<_}

@@ -3,6 +3,7 @@ use mathlib.Core.Path.{sym}
 use native.Mathlib.Omega.{arith}
 use lib.Seq.{length-take-le}
 use Rattle.exact.proofs.Numbers.{mul-below}
+use Rattle.exact.proofs.Rooms.{into-blank}
 use Rattle.rules.specs.Plan.{plan, columns, runs, mostColumns, mostRuns}
 use Rattle.plan.proofs.Sound.{good-sound}
 use Rattle.words.proofs.Answered.{run-front}
@@ -32,13 +33,20 @@ words-requires c κs =
     let p = plan (s .args .levels .now) (s .args .table .now) in
     rw (c .before .every-run .ensures, run-front (runs p)) (good-sound p (s .pre))
 
-copied-levels-requires : tie.Need-copied-levels-requires
-copied-levels-requires c κs = search needs
+slice-aggregate-copy : tie.Need-slice-aggregate-copy
+slice-aggregate-copy c = search needs
 
-copied-entries-requires : tie.Need-copied-entries-requires
-copied-entries-requires c κs =
-    let G = c .before .before .before .before .before .before .pre in
-    let p = plan (c .before .before .before .before .before .before .args .levels .now) (c .before .before .before .before .before .before .args .table .now) in
+copy-requires : tie.Need-copy-requires
+copy-requires c κs = search needs
+
+slice-aggregate-copy-2 : tie.Need-slice-aggregate-copy-2
+slice-aggregate-copy-2 c = search needs
+
+copy-requires-2 : tie.Need-copy-requires-2
+copy-requires-2 c κs =
+    let s = c .before .before .before .before .before .before .before .before .before in
+    let p = plan (s .args .levels .now) (s .args .table .now) in
+    let G = s .pre in
     omega (arith, G .size, mul-below (runs p) (columns p) mostRuns mostColumns (G .runs-high) (G .columns-high))
 
 all-marked-requires : tie.Need-all-marked-requires
@@ -47,14 +55,20 @@ all-marked-requires c κs = search needs
 returns : tie.Need-returns
 unfolding heldOf
 returns c =
-    let s = c .before .before .before .before .before .before .before .before in
-    let n = runs (plan (s .args .levels .now) (s .args .table .now)) in
+    let copied = c .before .before in
+    let worded = copied .before .before .before .before .before in
+    let s = worded .before .before .before .before .before in
+    let levels = s .args .levels .now in
+    let table = s .args .table .now in
+    let n = runs (plan levels table) in
     rw (
       c .all-marked .ensures,
-      c .before .copied-entries .ensures,
-      c .before .before .copied-levels .ensures,
-      c .before .before .before .words .ensures,
-      c .before .before .before .before .before .every-run .ensures,
+      copied .copy2 .ensures,
+      into-blank table 6144 0,
+      copied .before .before .before .copy .ensures,
+      into-blank levels mostColumns 0,
+      worded .words .ensures,
+      worded .before .before .every-run .ensures,
       run-front n,
       all-stand n,
     )
@@ -68,7 +82,9 @@ opened-spec =
     array-share-prefix-numbers
     slice-aggregate-words
     words-requires
-    copied-levels-requires
-    copied-entries-requires
+    slice-aggregate-copy
+    copy-requires
+    slice-aggregate-copy-2
+    copy-requires-2
     all-marked-requires
     returns)

@@ -1,4 +1,4 @@
--- `held::measures::rows_of` meets its contract: the parts lent are the plan and the runs that stand.
+-- `standing::measures::rows_of` meets its contract: the parts lent are the plan and the runs that stand.
 use Rattle.held.proofs.Lent.{levels-lent, entries-lent, size-fits, runs-lent, lent-runs, lent-sound, front}
 use borrow.Author.Needs.{needs}
 use Rattle.standing.proofs.measures.rows_of.Statement.{statement}

@@ -1,4 +1,4 @@
--- `held::measures::strength_of` meets its contract: the parts lent are the plan and the runs that stand.
+-- `standing::measures::strength_of` meets its contract: the parts lent are the plan and the runs that stand.
 use Rattle.held.proofs.Lent.{levels-lent, entries-lent, size-fits, runs-lent, lent-runs, lent-sound, lent-some, front}
 use borrow.Author.Needs.{needs}
 use Rattle.standing.proofs.measures.strength_of.Statement.{statement}

@@ -1,4 +1,4 @@
--- `held::measures::verdict_of` meets its contract: the words held, over the runs that stand, are the two patterns.
+-- `standing::measures::verdict_of` meets its contract: the words held, over the runs that stand, are the two patterns.
 use Rattle.held.proofs.Sizes.{sized}
 use Rattle.standing.proofs.Lent.{words-lent, pattern-lent}
 use borrow.Author.Needs.{needs}

@@ -1,4 +1,4 @@
--- `held::questions::advice` meets its contract: with fewer than two standing it is refused by 10, and beside no refusal stands the advice.
+-- `standing::questions::advice` meets its contract: with fewer than two standing it is refused by 10, and beside no refusal stands the advice.
 use Rattle.standing.specs.Answers.{heldAdvice}
 use Rattle.standing.proofs.Asked.{few-refused, enough-accepted}
 use Rattle.held.proofs.Lent.{count-is}

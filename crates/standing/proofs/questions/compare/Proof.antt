@@ -1,4 +1,4 @@
--- `held::questions::compare` meets its contract: it makes the tests of the definition, in their order.
+-- `standing::questions::compare` meets its contract: it makes the tests of the definition, in their order.
 use mathlib.Core.List.{[]}
 use borrow.Author.Tests.{eq-eqb, ne-eqb}
 use Rattle.compare.specs.Compare.{compareAnswer}

@@ -1,4 +1,4 @@
--- `held::questions::in_turn` meets its contract: it makes the tests of the definition, in their order.
+-- `standing::questions::in_turn` meets its contract: it makes the tests of the definition, in their order.
 use mathlib.Core.List.{List, [], _∷_}
 use Prim.Native.Nat.{_+_}
 use native.Mathlib.Omega.{arith}

@@ -1,4 +1,4 @@
--- `held::questions::row_sums` meets its contract: the row sums are those of the standing runs.
+-- `standing::questions::row_sums` meets its contract: the row sums are those of the standing runs.
 use mathlib.Core.List.{[]}
 use Rattle.words.specs.Answers.{rowSumsAnswer}
 use Rattle.standing.specs.Answers.{heldRowSums}

@@ -1,4 +1,4 @@
--- `held::questions::strength` meets its contract: the strength is that of the standing runs.
+-- `standing::questions::strength` meets its contract: the strength is that of the standing runs.
 use mathlib.Core.List.{[]}
 use Rattle.counts.specs.Counts.{strengthAnswer}
 use Rattle.standing.specs.Answers.{heldStrength}

@@ -1,4 +1,4 @@
--- `held::questions::word` meets its contract: a refusal is 10 or that of the length, and beside none stands the word held.
+-- `standing::questions::word` meets its contract: a refusal is 10 or that of the length, and beside none stands the word held.
 use mathlib.Core.List.{List, [], _∷_}
 use native.Mathlib.Omega.{arith}
 use borrow.Author.Tests.{lt-ltb, le-ltb}

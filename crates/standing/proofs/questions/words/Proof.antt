@@ -1,4 +1,4 @@
--- `held::questions::words` meets its contract: the words held are those of the standing runs.
+-- `standing::questions::words` meets its contract: the words held are those of the standing runs.
 use mathlib.Core.List.{[]}
 use Rattle.words.specs.Answers.{wordsAnswer}
 use Rattle.standing.specs.Answers.{heldWords}

@@ -1,4 +1,4 @@
--- `held::ratios::charted` meets its contract: the rating of the standing runs holds what the answer is made of.
+-- `standing::ratios::charted` meets its contract: the rating of the standing runs holds what the answer is made of.
 use Rattle.resolution.proofs.Answered.{chart-is}
 use Rattle.held.specs.Held.{planIn, standingIn}
 use Rattle.standing.specs.Answers.{ofStanding, heldChart}

@@ -1,4 +1,4 @@
--- `held::ratios::column_figure` meets its contract: the rating of the standing runs and the column holds what its figure is made of.
+-- `standing::ratios::column_figure` meets its contract: the rating of the standing runs and the column holds what its figure is made of.
 use Rattle.resolution.proofs.Answered.{figure-is}
 use Rattle.held.specs.Held.{planIn, standingIn}
 use Rattle.standing.specs.Answers.{ofStanding, heldFigure}

@@ -1,4 +1,4 @@
--- `held::ratios::rate_held` meets its contract: the first test that fails refuses, and else the runs that stand are rated.
+-- `standing::ratios::rate_held` meets its contract: the first test that fails refuses, and else the runs that stand are rated.
 use Rattle.standing.proofs.Rating.{rate-empty, rate-outside, rate-inside}
 use borrow.Author.Needs.{needs}
 use Rattle.standing.proofs.ratios.rate_held.Statement.{statement}

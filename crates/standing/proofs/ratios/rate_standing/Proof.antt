@@ -1,4 +1,4 @@
--- `held::ratios::rate_standing` meets its contract: the parts lent are the plan, the runs that stand and their words.
+-- `standing::ratios::rate_standing` meets its contract: the parts lent are the plan, the runs that stand and their words.
 use Rattle.held.proofs.Lent.{levels-lent, entries-lent, size-fits, runs-lent, lent-runs, front}
 use Rattle.standing.proofs.Rating.{measured}
 use borrow.Author.Needs.{needs}

@@ -1,4 +1,4 @@
--- `held::ratios::resolution` meets its contract: the words held are those of the standing runs, and R is found in them.
+-- `standing::ratios::resolution` meets its contract: the words held are those of the standing runs, and R is found in them.
 use mathlib.Core.Path.{ap}
 use mathlib.Core.List.{List, [], _∷_}
 use Rattle.rules.specs.Plan.{columns, level, entry, everyColumn}

@@ -1,4 +1,4 @@
--- `held::tables::absolute_table` meets its contract: the table that is asked for is this one.
+-- `standing::tables::absolute_table` meets its contract: the table that is asked for is this one.
 use Rattle.frequencies.specs.Frequencies.{tableIn, absoluteTable}
 use borrow.Author.Needs.{needs}
 use Rattle.standing.proofs.tables.absolute_table.Statement.{statement}

@@ -1,4 +1,4 @@
--- `held::tables::check_size` meets its contract: it makes the tests of the definition, in their order.
+-- `standing::tables::check_size` meets its contract: it makes the tests of the definition, in their order.
 use mathlib.Core.Path.{_∙_}
 use Rattle.standing.proofs.Projected.{size-empty, size-below, size-above, size-wide, size-fits}
 use borrow.Author.Needs.{needs}

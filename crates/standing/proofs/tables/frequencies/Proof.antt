@@ -1,4 +1,4 @@
--- `held::tables::frequencies` meets its contract: a refusal is 10 or that of the size, and then of the rooms alone.
+-- `standing::tables::frequencies` meets its contract: a refusal is 10 or that of the size, and then of the rooms alone.
 use mathlib.Core.List.{List}
 use native.Mathlib.Omega.{arith}
 use Rattle.frequencies.specs.Frequencies.{Line, Rooms, rooms, tableIn}

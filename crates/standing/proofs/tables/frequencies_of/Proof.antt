@@ -1,4 +1,4 @@
--- `held::tables::frequencies_of` meets its contract: the parts lent are the plan and the runs that stand.
+-- `standing::tables::frequencies_of` meets its contract: the parts lent are the plan and the runs that stand.
 use Rattle.held.proofs.Lent.{levels-lent, entries-lent, size-fits, runs-lent, lent-runs, front}
 use Rattle.standing.proofs.Rating.{tabled}
 use borrow.Author.Needs.{needs}

@@ -1,4 +1,4 @@
--- `held::tables::relative_table` meets its contract: the table that is asked for is this one.
+-- `standing::tables::relative_table` meets its contract: the table that is asked for is this one.
 use Rattle.frequencies.specs.Frequencies.{tableIn, relativeTable}
 use borrow.Author.Needs.{needs}
 use Rattle.standing.proofs.tables.relative_table.Statement.{statement}

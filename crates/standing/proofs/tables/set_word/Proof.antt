@@ -1,4 +1,4 @@
--- `held::tables::set_word` meets its contract: a refusal is 10, or that of the size or the set, and beside none stands W(I).
+-- `standing::tables::set_word` meets its contract: a refusal is 10, or that of the size or the set, and beside none stands W(I).
 use mathlib.Core.Path.{_≡_, sym, _∙_, ap}
 use mathlib.Core.Bool.{true, false}
 use mathlib.Core.List.{List, [], _∷_}

@@ -1,4 +1,4 @@
--- `held::tables::set_word_of` meets its contract: the parts lent are the plan and the runs that stand.
+-- `standing::tables::set_word_of` meets its contract: the parts lent are the plan and the runs that stand.
 use Rattle.exact.proofs.Bits.{of}
 use Rattle.held.proofs.Lent.{levels-lent, entries-lent, size-fits, runs-lent, lent-runs, lent-sound, front}
 use borrow.Author.Needs.{needs}
