@@ -5,3 +5,4 @@ pub mod Rating
 pub mod Projected
 pub mod Seen
 pub mod Alike
+pub mod Figures
