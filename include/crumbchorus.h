@@ -6,9 +6,11 @@
  * most 2,000,000,000. Runs, columns and places are numbered from 0.
  *
  * The functions keep nothing between calls, allocate nothing, write to no
- * memory but the room that they are lent, and always return. They may be
+ * memory but the rooms that they are lent, and always return. They may be
  * called from several threads at once. A pointer whose length is 0 may be
- * null; any other must point to that many bytes.
+ * null; any other must point to that many bytes, or to that many numbers
+ * where it points to size_t. A room overlaps nothing else that is lent in
+ * the same call.
  */
 #ifndef CRUMBCHORUS_H
 #define CRUMBCHORUS_H
@@ -61,6 +63,45 @@ int64_t crumb_word(const uint8_t *levels, size_t columns,
  */
 int64_t crumb_listing(const uint8_t *text, size_t length,
                       uint8_t *room, size_t bytes);
+
+/* The text of a plan, in the form above: numbers in decimal without leading
+ * zeros, single commas between them, byte 10 behind each line. A plan has
+ * only one such text, so that writing what was read gives the same bytes.
+ *
+ * It goes to the front of `room`, without a byte 0 behind it, and the answer
+ * is the number of its bytes, 18,504 at most. The room's other bytes stay as
+ * they were. A negative answer is a refusal number, negated: -1 to -5 as
+ * above, then -7 where the room is smaller than the text. In a refusal no
+ * byte of the room is written.
+ */
+int64_t crumb_write(const uint8_t *levels, size_t columns,
+                    const uint8_t *table, size_t entries,
+                    uint8_t *room, size_t bytes);
+
+/* The text of the same plan without the runs that were lost. Their numbers
+ * are those of the text that comes in, and they are struck one after the
+ * other. The new text goes to the front of `room`, and to the front of
+ * `numbers` go the original numbers of the runs left, rising: as many as the
+ * new text has lines behind the first. The answer is the number of the new
+ * text's bytes, 18,504 at most. What is past the text and past the numbers
+ * stays as it was. Without a lost run the text comes out as it went in.
+ *
+ * A negative answer is a refusal number, negated; the first that applies, in
+ * this order, is given:
+ *   -13, -14, -1 to -5  the text is refused, as above
+ *   then, for the first lost run that cannot be struck,
+ *   -8  it is not a run of the plan
+ *   -9  it was named before
+ *   -10 it is the last run standing
+ *   and then
+ *   -7  the room is smaller than the text, or `places` is below the number
+ *       of runs left
+ * In a refusal nothing is written to either room.
+ */
+int64_t crumb_rewrite(const uint8_t *text, size_t length,
+                      const size_t *lost, size_t losses,
+                      uint8_t *room, size_t bytes,
+                      size_t *numbers, size_t places);
 
 #ifdef __cplusplus
 }

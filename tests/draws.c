@@ -2,9 +2,21 @@
 
 static unsigned long state;
 
+unsigned long row_of(unsigned long seed)
+{
+    return seed * 2654435769u + 88172645463325252u;
+}
+
+unsigned long change_row(unsigned long row)
+{
+    unsigned long left = state;
+    state = row;
+    return left;
+}
+
 void start_draws(unsigned long seed)
 {
-    state = seed * 2654435769u + 88172645463325252u;
+    state = row_of(seed);
 }
 
 unsigned long draw(unsigned long below)

@@ -6,6 +6,12 @@
 
 void start_draws(unsigned long seed);
 
+/* Where the row of a seed's numbers begins. */
+unsigned long row_of(unsigned long seed);
+
+/* Goes on in another row; gives back the place in the row that was left. */
+unsigned long change_row(unsigned long row);
+
 /* 0 to below - 1 */
 unsigned long draw(unsigned long below);
 

@@ -1,23 +1,24 @@
 /* A mutation fuzzer for the exported functions. Texts of the corpus have
  * bytes flipped, inserted and cut, lines copied, heads and tails joined.
- * What comes out is handed to crumb_listing as it is, and taken apart into
- * levels, table and length for crumb_word; the answers are compared with the
- * reference. Every lent buffer stands between two stretches of memory without
+ * What comes out is handed to crumb_listing as it is, to crumb_rewrite with
+ * a list of lost runs, and taken apart into levels, table and length for
+ * crumb_word and crumb_write; the answers are compared with the reference.
+ * Every lent buffer stands between two stretches of memory without
  * access: flush with the one behind it, and in a second call flush with the
  * one before it. A read or a write out of bounds traps.
  *
  * Arguments: the seed, the number of rounds, the files of the corpus. Each
- * round tries both functions. A plan whose answer is of a new kind joins the
+ * round tries every function. A plan whose answer is of a new kind joins the
  * corpus for the rest of the run.
  *
  * The reference is slow, so the figures of a larger plan are not compared:
  * then the form of the listing is looked at, and its words against
  * crumb_word; a word must not be negative. How many those were is printed.
  */
-#include "plans.h"
+#include "fuzz_writers.h"
+#include "lent.h"
 #include "draws.h"
 
-typedef unsigned long size;
 typedef __int128 wide;
 long crumb_word(const byte *levels, size columns, const byte *table, size entries, unsigned long length);
 long crumb_listing(const byte *text, size length, byte *room, size bytes);
@@ -31,71 +32,12 @@ int memcmp(const void *a, const void *b, size n);
 int open(const char *path, int flags, ...);
 long read(int file, void *to, size bytes);
 int close(int file);
-void *mmap(void *at, size bytes, int protection, int flags, int file, long offset);
-int mprotect(void *at, size bytes, int protection);
 void (*signal(int number, void (*handler)(int)))(int);
 
 /* Their values on x86-64 Linux. */
-enum { NO_ACCESS = 0, READ_AND_WRITE = 3, PRIVATE_AND_ANONYMOUS = 0x22, READ_ONLY = 0, BUS_ERROR = 7, SEGMENT_FAULT = 11 };
+enum { READ_ONLY = 0, BUS_ERROR = 7, SEGMENT_FAULT = 11 };
 
-/* ---- what was tried */
-
-typedef struct {
-    const char *name;
-    long tried, uncompared, met[16];
-} Tally;
-
-static Tally words = { .name = "crumb_word" }, listings = { .name = "crumb_listing" };
-static unsigned long seed, rounds, round_now;
-static long differences;
-static Text text;
-
-enum { DIFFERENCES = 10 };
-
-static void print_tally(const Tally *tally)
-{
-    printf("%s: %ld tried, %ld answered, of which %ld too large to compare; refused:",
-           tally->name, tally->tried, tally->met[0], tally->uncompared);
-    for (int number = 1; number < 16; number++)
-        if (tally->met[number] > 0)
-            printf(" %d (%ld)", number, tally->met[number]);
-    printf("\n");
-}
-
-static void finish(void)
-{
-    print_tally(&words);
-    print_tally(&listings);
-    printf("%s: %ld differ\n", differences == 0 ? "the same" : "NOT the same", differences);
-    exit(differences != 0);
-}
-
-static void print_input(void)
-{
-    for (long k = 0; k < text.length && k < 400; k++)
-        printf(text.bytes[k] >= ' ' && text.bytes[k] < 127 && text.bytes[k] != '\\' ? "%c" : "\\%03o", text.bytes[k]);
-    printf("\n");
-}
-
-/* The first few are printed; the next one ends the run. */
-static void differs(const char *what, long got, long wanted)
-{
-    if (differences == DIFFERENCES)
-        finish();
-    differences++;
-    printf("differs in round %lu: %s gives %ld, not %ld, made from %ld bytes: ", round_now, what, got, wanted, text.length);
-    print_input();
-}
-
-static const char *asked = "the fuzzer";
-
-/* Nothing else runs when the library traps, so that printing is safe here. */
-static void trapped(int number)
-{
-    printf("trapped in %s by signal %d in round %lu, seed %lu, made from %ld bytes: ", asked, number, round_now, seed, text.length);
-    print_input();
-    exit(1);
-}
+/* ---- asking */
 
 static long ask_word(const byte *levels, long columns, const byte *table, long entries, unsigned long length)
 {
@@ -113,41 +55,11 @@ static long ask_listing(const byte *from, byte *room, long bytes)
     return answer;
 }
 
-/* ---- memory between two stretches without access */
-
-/* A multiple of every page size in use, an emulator's host included. */
-enum { STRETCH = 65536 };
-
-typedef struct {
-    byte *start;
-} Guarded;
-
-static Guarded lent_text, lent_room, lent_levels, lent_table;
-
-static Guarded guarded(void)
-{
-    byte *all = mmap(0, 3 * STRETCH, NO_ACCESS, PRIVATE_AND_ANONYMOUS, -1, 0);
-    Guarded g = { all + STRETCH };
-    if (all == (byte *)-1 || mprotect(g.start, STRETCH, READ_AND_WRITE) != 0) {
-        printf("no memory\n");
-        exit(1);
-    }
-    return g;
-}
-
-/* A copy of the bytes, its end flush with the stretch behind or its start with the one before. */
-static byte *lend(Guarded g, const byte *bytes, long length, int late)
-{
-    byte *copy = late ? g.start + STRETCH - length : g.start;
-    memcpy(copy, bytes, (size)length);
-    return copy;
-}
-
 /* ---- crumb_listing */
 
-enum { LONGEST = 2048, ROOM = 4096, CANARY = 0xA5 };
+enum { LONGEST = 2048, ROOM = 4096 };
 
-static byte wanted[ROOM], canaries[ROOM];
+static byte wanted[ROOM];
 
 /* With a room of so many bytes; `length` is that of the listing wanted. */
 static void try_room(long length, long bytes, int late)
@@ -503,6 +415,9 @@ static void mutate(Text *t)
     }
 }
 
+/* The writers draw from a row of their own, so that the mutations of a seed do not depend on them. */
+static unsigned long writers_row;
+
 static void one_round(void)
 {
     choose(&text);
@@ -513,21 +428,25 @@ static void one_round(void)
         keep_new_kind();
     take_apart(&text);
     try_word();
+    unsigned long row = change_row(writers_row);
+    try_write(&plan);
+    try_rewrite();
+    writers_row = change_row(row);
 }
 
 int main(int count, char **arguments)
 {
     seed = argument(count, arguments, 1, 20261115);
-    rounds = argument(count, arguments, 2, 1000);
+    unsigned long rounds = argument(count, arguments, 2, 1000);
     start_draws(seed);
+    writers_row = row_of(seed + 1);
     for (int k = 3; k < count; k++)
         load(arguments[k]);
     if (stored == 0)
         return 1;
     signal(SEGMENT_FAULT, trapped);
     signal(BUS_ERROR, trapped);
-    lent_text = guarded(), lent_room = guarded(), lent_levels = guarded(), lent_table = guarded();
-    memset(canaries, CANARY, sizeof canaries);
+    start_lending();
     printf("seed %lu, %lu rounds from %ld texts\n", seed, rounds, stored);
     for (round_now = 0; round_now < rounds; round_now++)
         one_round();

@@ -47,6 +47,13 @@ void large_plan(Plan *p)
     p->length = 1;
 }
 
+void wide_plan(Plan *p)
+{
+    draw_levels(p, 1 + (long)draw(24), 2000000000);
+    draw_table(p, 1 + (long)draw(256));
+    p->length = 1;
+}
+
 void even_plan(Plan *p, long columns, byte level, long runs)
 {
     p->columns = columns;
@@ -137,6 +144,33 @@ void shuffle_runs(Plan *p)
 {
     for (long run = p->entries / p->columns - 1; run > 0; run--)
         swap_runs(p, run, (long)draw(run + 1));
+}
+
+static void an_array(Plan *p)
+{
+    if (draw(3) == 0)
+        full_factorial(p);
+    else
+        regular_fraction(p);
+    if (draw(2))
+        shuffle_runs(p);
+    if (draw(8) == 0 && p->entries <= 12 * p->columns)
+        repeat_runs(p);
+    if (draw(2))
+        take_runs_out(p, 1 + (long)draw(3));
+}
+
+void a_plan(Plan *p)
+{
+    unsigned long kind = draw(1000);
+    if (kind < 2)
+        large_plan(p);
+    else if (kind < 80)
+        medium_plan(p);
+    else if (kind < 400)
+        an_array(p);
+    else
+        small_plan(p);
 }
 
 /* ---- damaged plans */
@@ -322,4 +356,34 @@ void damage_text(Text *t, int kind)
     case BYTES_32768: fill_text(t, first_count(t), 32768); break;
     case BYTES_32769: fill_text(t, first_count(t), 32769); break;
     }
+}
+
+void damaged_text(Plan *p, Text *t, int a, int b)
+{
+    int kinds[2] = { a, b };
+    small_plan(p);
+    for (int k = 0; k < 2; k++)
+        if (kinds[k] < PLAN_DAMAGES)
+            damage(p, kinds[k]);
+    write_text(p, t);
+    for (int k = 0; k < 2; k++)
+        if (kinds[k] >= PLAN_DAMAGES)
+            damage_text(t, kinds[k] - PLAN_DAMAGES);
+}
+
+/* Whether a line is malformed among those that end in the first 32,768 bytes, or the text ends without an end of line. */
+static int malformed(const Text *t)
+{
+    static Read read;
+    long length = t->length;
+    while (length > 32768 || (length < t->length && t->bytes[length - 1] != 10))
+        length--;
+    return reference_read(t->bytes, length, &read).number == 14;
+}
+
+/* Without columns or bytes nothing of the plan is in the text. */
+unsigned deserved_by_text(const Plan *p, const Text *t)
+{
+    unsigned refusals = p->columns == 0 || t->length == 0 ? 0 : deserved(p);
+    return refusals | (unsigned)(t->length > 32768) << 13 | (unsigned)malformed(t) << 14;
 }

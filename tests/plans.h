@@ -24,6 +24,9 @@ void small_plan(Plan *p);
 void medium_plan(Plan *p);
 void large_plan(Plan *p);
 
+/* Any number of columns and of runs. */
+void wide_plan(Plan *p);
+
 /* Every combination of levels once. */
 void full_factorial(Plan *p);
 
@@ -36,6 +39,9 @@ void even_plan(Plan *p, long columns, byte level, long runs);
 void take_runs_out(Plan *p, long count);
 void repeat_runs(Plan *p);
 void shuffle_runs(Plan *p);
+
+/* A small plan for the most part, one in three an array with strength. */
+void a_plan(Plan *p);
 
 /* ---- damaged plans */
 
@@ -58,5 +64,12 @@ void damage_text(Text *t, int kind);
 
 /* Lines of so many small numbers until the text has `length` bytes; at least four lines must be wanting. */
 void fill_text(Text *t, long columns, long length);
+
+/* A small plan with two damages and its text: those of the plan come before it is written, those of the text, numbered from
+ * PLAN_DAMAGES, after. Numbers past these are no damage to either. */
+void damaged_text(Plan *p, Text *t, int a, int b);
+
+/* Which of the refusals 13, 14 and 1 to 5 a text deserves, each looked at by itself; the plan is the one that it was written from. */
+unsigned deserved_by_text(const Plan *p, const Text *t);
 
 #endif

@@ -306,6 +306,95 @@ Refusal reference_read(const byte *text, long length, Read *read)
     return reference_check(read->levels, read->columns, read->table, read->entries);
 }
 
+static byte *number(byte *out, wide n)
+{
+    byte digits[40];
+    int count = 0;
+    do
+        digits[count++] = (byte)('0' + (int)(n % 10));
+    while ((n /= 10) > 0);
+    while (count > 0)
+        *out++ = digits[--count];
+    return out;
+}
+
+static byte *end_line(byte *out)
+{
+    *out++ = 10;
+    return out;
+}
+
+static byte *put_line(byte *out, const byte *row, long count)
+{
+    for (long k = 0; k < count; k++) {
+        if (k > 0)
+            *out++ = ',';
+        out = number(out, row[k]);
+    }
+    return end_line(out);
+}
+
+/* How many bytes the text has, or -7. */
+static long put_text(const Plan *p, byte *room, long bytes)
+{
+    static byte text[257 * 24 * 3];
+    byte *out = put_line(text, p->levels, p->columns);
+    for (long run = 0; run < p->count; run++)
+        out = put_line(out, p->table + p->runs[run] * p->columns, p->columns);
+    long length = out - text;
+    if (length > bytes)
+        return -7;
+    for (long k = 0; k < length; k++)
+        room[k] = text[k];
+    return length;
+}
+
+long reference_write(const byte *levels, long columns, const byte *table, long entries, byte *room, long bytes)
+{
+    Refusal r = reference_check(levels, columns, table, entries);
+    if (r.number != 0)
+        return -r.number;
+    Plan p = whole(levels, columns, table, entries);
+    return put_text(&p, room, bytes);
+}
+
+/* Strikes one run of a plan that had so many; the refusal number, 0 where there is none. */
+static int strike(Plan *p, long runs, unsigned long run)
+{
+    long place = 0;
+    while (place < p->count && (unsigned long)p->runs[place] != run)
+        place++;
+    if (run >= (unsigned long)runs)
+        return 8;
+    if (place == p->count)
+        return 9;
+    if (p->count == 1)
+        return 10;
+    *p = without(p, place);
+    return 0;
+}
+
+long reference_rewrite(const byte *text, long length, const unsigned long *lost, long losses,
+                       byte *room, long bytes, unsigned long *numbers, long places)
+{
+    static Read read;
+    Refusal r = reference_read(text, length, &read);
+    if (r.number != 0)
+        return -r.number;
+    Plan all = whole(read.levels, read.columns, read.table, read.entries), left = all;
+    for (long k = 0; k < losses; k++) {
+        int refused = strike(&left, all.count, lost[k]);
+        if (refused != 0)
+            return -refused;
+    }
+    if (left.count > places)
+        return -7;
+    long answer = put_text(&left, room, bytes);
+    for (long k = 0; answer > 0 && k < left.count; k++)
+        numbers[k] = (unsigned long)left.runs[k];
+    return answer;
+}
+
 /* ---- the listing */
 
 static byte *put(byte *out, const char *name)
@@ -317,21 +406,8 @@ static byte *put(byte *out, const char *name)
 
 static byte *field(byte *out, wide n)
 {
-    byte digits[40];
-    int count = 0;
-    do
-        digits[count++] = (byte)('0' + (int)(n % 10));
-    while ((n /= 10) > 0);
     *out++ = ' ';
-    while (count > 0)
-        *out++ = digits[--count];
-    return out;
-}
-
-static byte *end_line(byte *out)
-{
-    *out++ = 10;
-    return out;
+    return number(out, n);
 }
 
 static byte *put_refusal(byte *out, Refusal r)

@@ -1,7 +1,8 @@
-/* An implementation of document 01, written from its definitions alone. It
- * shares no code with the product and takes no short cut: sums over sets of
- * columns of sums over ordered pairs of runs, counts of every combination,
- * a search through all candidates. Slow, for small plans.
+/* An implementation of document 01 and of request #101, written from their
+ * definitions alone. It shares no code with the product and takes no short
+ * cut: sums over sets of columns of sums over ordered pairs of runs, counts
+ * of every combination, a search through all candidates. Slow, for small
+ * plans.
  */
 #ifndef REFERENCE_H
 #define REFERENCE_H
@@ -27,6 +28,14 @@ typedef struct {
 
 /* Refusals 13, 14 and 1 to 5; number 0 where there is none. */
 Refusal reference_read(const byte *text, long length, Read *read);
+
+/* The plan's text, put into a room of so many bytes; how many bytes it has, or the refusal number negated. */
+long reference_write(const byte *levels, long columns, const byte *table, long entries, byte *room, long bytes);
+
+/* The text of the runs left, and their original numbers in a room of so many places; how many bytes the text has, or the refusal
+ * number negated. */
+long reference_rewrite(const byte *text, long length, const unsigned long *lost, long losses,
+                       byte *room, long bytes, unsigned long *numbers, long places);
 
 /* The listing of a text; the number of bytes put into `out`, which has room for 4096. */
 long reference_listing(const byte *text, long length, byte *out);

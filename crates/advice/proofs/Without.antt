@@ -27,7 +27,7 @@ module _ (test : ℕ → Bool) where
 -- ---- without one run
 
 -- a run that is not there is not lost
-without-none : (f : ℕ) (rs : List ℕ) → ((g : ℕ) → List·Memᴰ g rs → ¬ (g ≡ f)) → without f rs ≡ rs
+pub without-none : (f : ℕ) (rs : List ℕ) → ((g : ℕ) → List·Memᴰ g rs → ¬ (g ≡ f)) → without f rs ≡ rs
 without-none f [] h = refl
 without-none f (g ∷ rs) h =
     rw (is-false (eqb g f) (λ t. h g (List·Memᴰ·head refl) (eqb→eq g f t)), without-none f rs (λ k m. h k (List·Memᴰ·tail m)))

@@ -5,7 +5,7 @@ use mathlib.Core.List.{List, [], _∷_, List·Memᴰ, List·Memᴰ·head, List·
 use Prim.Native.Nat.{ℕ, zero, suc, _≤_, _<_, _^_}
 use native.Mathlib.Omega.{arith}
 use borrow.Author.Tests.{eqb-true, not-false, ltb-false}
-use lib.Dec.{T, eqb}
+use lib.Dec.{T}
 use lib.ListN.{length}
 use Rattle.exact.proofs.Numbers.{length-from}
 use Rattle.rules.specs.Plan.{Plan, columns, level, entry, everyRun, everyColumn}
@@ -20,11 +20,12 @@ use Rattle.resolution.specs.Resolution.{resolutionIn, ratioIn, ratioChecksIn, t
 use Rattle.resolution.proofs.Resolved.{resolution-is}
 use Rattle.held.specs.declared.Held.{Held}
 use Rattle.held.specs.declared.HeldAnswer.{HeldAnswer}
-use Rattle.standing.specs.declared.HeldWord.{HeldWord}
-use Rattle.held.specs.Held.{IsHeld, planIn, standingIn, openAnswer, strikes, reinstates}
+use Rattle.held.specs.Held.{IsHeld, planIn, openAnswer, strikes, reinstates}
 use Rattle.held.specs.History.{isAccepted}
-use Rattle.standing.specs.Answers.{ofStanding, heldWord}
 use Rattle.held.proofs.History.{call-held, undo}
+use Rattle.standing.specs.declared.HeldWord.{HeldWord}
+use Rattle.standing.specs.Answers.{heldWord}
+use Rattle.standing.proofs.Asked.{standing-most}
 use Rattle.bench.specs.Exports.{round, rounds}
 
 -- no refusal: no check of the call fails
@@ -48,14 +49,7 @@ open-number p e = rw e (number-most (planChecks p) tt)
 
 pub word-number : (h : Held) (j : ℕ) {a : HeldWord} → a ≡ heldWord h j → a .answer .refused .number ≤ 14
 unfolding heldWord wordAnswer
-word-number h j e = rw e (go (eqb (length (standingIn h)) 0) refl)
-  where
-    own : List Check
-    own = badLength (columns (planIn h)) j ∷ []
-
-    go : (b : Bool) → eqb (length (standingIn h)) 0 ≡ b → refusal (ofStanding h own) .number ≤ 14
-    go true q = rw q (omega arith)
-    go false q = rw q (number-most own tt)
+word-number h j e = rw e (standing-most h (badLength (columns (planIn h)) j ∷ []) tt)
 
 -- ---- a table
 

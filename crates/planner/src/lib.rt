@@ -1,17 +1,35 @@
-// What a C program links: functions on byte slices and numbers (include/crumbchorus.h).
+// What a C program links: functions on slices of bytes and of run numbers, and on numbers (include/crumbchorus.h).
 use exact::signed;
+use rules::Refusal;
 ghost use mathlib.Core.Path.{_≡_};
-ghost use Prim.Native.Nat.{_≤_};
+ghost use Prim.Native.Nat.{_≤_, _<_, _^_};
 ghost use lib.IntN.{pos, negℤ};
-ghost use Rattle.rules.specs.Plan.{plan};
+ghost use lib.ListN.{length};
+ghost use Rattle.rules.specs.Plan.{plan, everyRun};
+ghost use Rattle.rules.specs.Refusals.{ofPlan};
 ghost use Rattle.words.specs.Answers.{plannerWord};
+ghost use Rattle.text.specs.Reader.{filled};
+ghost use Rattle.writer.specs.Writer.{writeText, writeAnswer};
+ghost use Rattle.handover.specs.Handover.{rewriteAnswer, rewritten, runsLeft};
 ghost use Rattle.report.specs.Listing.{plannerListing, listingRoom};
+ghost use Rattle.planner.specs.Exports.{bytesOr};
 
 fn negated(number: u64) -> i64
     requires { ⌜ number ≤ 14 ⌝ }
     ensures { λ r. ⌜ r ≡ negℤ (pos number) ⌝ }
 {
     signed::sub(0, signed::of_u64(number))
+}
+
+fn bytes_or(refused: Refusal, bytes: usize) -> i64
+    requires { ⌜ (refused .number ≤ 14) × (bytes < 2 ^ 63) ⌝ }
+    ensures { λ r. ⌜ r ≡ bytesOr refused bytes ⌝ }
+{
+    let number = refused.number;
+    if number != 0 {
+        return negated(number);
+    }
+    signed::of_size(bytes)
 }
 
 // The scaled word of one length, or the refusal number negated.
@@ -39,4 +57,38 @@ pub extern "C" fn crumb_listing(text: &[u8], room: &mut [u8]) -> i64
         return negated(number);
     }
     signed::of_size(answer.bytes)
+}
+
+// The text of a plan into the lent room: the number of bytes, or the refusal number negated.
+#[no_mangle]
+pub extern "C" fn crumb_write(levels: &[u8], table: &[u8], room: &mut [u8]) -> i64
+    ensures answer { λ r. ⌜ (let p = plan (now (levels .entry)) (now (table .entry)) in
+        let a = writeAnswer p (everyRun p) (ofPlan p) (length (now (room .entry))) in
+        r ≡ bytesOr (a .refused) (a .bytes)) ⌝ }
+    ensures room { λ _. ⌜ (let p = plan (now (levels .entry)) (now (table .entry)) in
+        let a = writeAnswer p (everyRun p) (ofPlan p) (length (now (room .entry))) in
+        now (room .exit) ≡ filled (a .refused) (writeText p) (now (room .entry))) ⌝ }
+{
+    let answer = writer::write(levels, table, room);
+    bytes_or(answer.refused, answer.bytes)
+}
+
+// The text of a plan without its lost runs, and the original numbers of the runs left, each into its lent room: the number of bytes,
+// or the refusal number negated.
+#[no_mangle]
+pub extern "C" fn crumb_rewrite(
+    text: &[u8],
+    lost: &[usize],
+    room: &mut [u8],
+    numbers: &mut [usize],
+) -> i64
+    ensures answer { λ r. ⌜ (let a = rewriteAnswer (now (text .entry)) (now (lost .entry)) (length (now (room .entry))) (length (now (numbers .entry))) in
+        r ≡ bytesOr (a .refused) (a .bytes)) ⌝ }
+    ensures room { λ _. ⌜ (let a = rewriteAnswer (now (text .entry)) (now (lost .entry)) (length (now (room .entry))) (length (now (numbers .entry))) in
+        now (room .exit) ≡ filled (a .refused) (rewritten (now (text .entry)) (now (lost .entry))) (now (room .entry))) ⌝ }
+    ensures numbers { λ _. ⌜ (let a = rewriteAnswer (now (text .entry)) (now (lost .entry)) (length (now (room .entry))) (length (now (numbers .entry))) in
+        now (numbers .exit) ≡ filled (a .refused) (runsLeft (now (text .entry)) (now (lost .entry))) (now (numbers .entry))) ⌝ }
+{
+    let answer = handover::rewrite(text, lost, room, numbers);
+    bytes_or(answer.refused, answer.bytes)
 }

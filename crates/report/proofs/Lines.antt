@@ -1,19 +1,16 @@
 -- A line by its fields: one more is one field behind the others.
 use mathlib.Core.Path.{_≡_, refl, sym, _∙_, ap, ap₂}
-use mathlib.Core.List.{List, [], _∷_, _++_, append-assoc, append-nil, List·Memᴰ, List·Memᴰ·head, List·Memᴰ·tail}
+use mathlib.Core.List.{List, [], _∷_, _++_, List·Memᴰ, List·Memᴰ·head, List·Memᴰ·tail}
 use Prim.Native.Nat.{ℕ, _+_, _*_, _-_, _<_, _≤_}
 use native.Mathlib.Numerals.{add-one}
 use native.Mathlib.Omega.{arith}
 use lib.ListN.{length, getD, set, take}
 use lib.Seq.{take-suc, take-all}
 use Rattle.exact.specs.Lists.{each}
+use Rattle.text.specs.Bytes.{Put}
+use Rattle.text.proofs.Puts.{each-snoc, put-as, put-kept, put-both, put-byte}
 use Rattle.report.specs.Lines.{field, lineOf}
-use Rattle.report.specs.Parts.{Put, mostOfLine}
-use Rattle.report.proofs.Puts.{put-as, put-kept, put-both, put-byte}
-
-pub each-snoc : {A : Type 0} (xs : List A) (x : A) (g : A → List ℕ) → each (xs ++ x ∷ []) g ≡ each xs g ++ g x
-each-snoc [] x g = append-nil (g x)
-each-snoc (y ∷ ys) x g = ap (λ l. g y ++ l) (each-snoc ys x g) ∙ sym (append-assoc (g y) (each ys g) (g x))
+use Rattle.report.specs.Parts.{mostOfLine}
 
 pub each-cong-in : {A : Type 0} (xs : List A) {g h : A → List ℕ} → ((x : A) → List·Memᴰ x xs → g x ≡ h x) → each xs g ≡ each xs h
 each-cong-in [] e = refl

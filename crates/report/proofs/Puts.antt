@@ -1,48 +1,17 @@
--- Parts put into a room one after the other are put in as one.
-use mathlib.Core.Path.{_≡_, refl, sym, _∙_, ap}
+-- Bytes put into a room one by one, and a field of the listing.
+use mathlib.Core.Path.{_≡_, sym}
 use mathlib.Core.List.{List, [], _∷_, _++_}
 use Prim.Native.Nat.{ℕ, _+_, _≤_, _<_, _^_}
-use native.Mathlib.Nat.{add-assoc, zero-add}
+use native.Mathlib.Nat.{add-assoc}
 use native.Mathlib.Numerals.{add-one}
 use native.Mathlib.Omega.{arith}
-use lib.ListN.{length, getD, set, take, drop, length-append}
+use lib.ListN.{length, getD, set, take}
 use lib.Seq.{take-suc, take-all}
-use Rattle.exact.specs.Lists.{into}
-use Rattle.text.specs.Bytes.{putAt}
+use Rattle.text.specs.Bytes.{putAt, Put}
 use Rattle.text.specs.Decimal.{decimal}
 use Rattle.text.proofs.Digits.{decimal-length}
-use Rattle.text.proofs.Places.{put-nothing, put-more, put-length, put-one, take-put}
+use Rattle.text.proofs.Puts.{put-byte, put-as, put-kept, put-both}
 use Rattle.report.specs.Lines.{field}
-use Rattle.report.specs.Parts.{Put}
-
-pub put-none : (at : ℕ) (room : List ℕ) → at ≤ length room → Put [] 0 at room at room
-put-none at room h = record { fits = omega arith; short = omega arith; behind = omega arith; stored = put-nothing at room }
-
-pub put-byte : (b at : ℕ) (room : List ℕ) → at < length room → Put (b ∷ []) 1 at room (at + 1) (set room at b)
-put-byte b at room h = record { fits = omega arith; short = omega arith; behind = refl; stored = put-one at room b h }
-
--- the same bytes by another name, under a larger bound
-pub put-as : {xs ys : List ℕ} {a b at next : ℕ} {room after : List ℕ} → xs ≡ ys → a ≤ b → Put xs a at room next after → Put ys b at room next after
-put-as e h P = record {
-  fits = rw (← e) (P .fits);
-  short = rw (← e) (omega (arith, P .short));
-  behind = rw (← e) (P .behind);
-  stored = rw (← e) (P .stored);
-}
-
-pub put-kept : {xs : List ℕ} {a at next : ℕ} {room after : List ℕ} → Put xs a at room next after → length after ≡ length room
-put-kept {xs} {at = at} {room = room} P = ap length (P .stored) ∙ put-length at room xs (P .fits)
-
-pub put-both : {xs ys : List ℕ} {a b at mid next : ℕ} {room between after : List ℕ} →
-    Put xs a at room mid between → Put ys b mid between next after → Put (xs ++ ys) (a + b) at room next after
-put-both {xs} {ys} {at = at} {mid = mid} {room = room} P Q =
-    let l = length-append xs ys in
-    record {
-      fits = omega (arith, Q .fits, P .behind, put-kept P);
-      short = omega (arith, P .short, Q .short);
-      behind = omega (arith, P .behind, Q .behind);
-      stored = Q .stored ∙ ap (putAt mid ys) (P .stored) ∙ put-more at room xs (P .fits) ys mid (sym (P .behind));
-    }
 
 -- ---- byte by byte
 
@@ -72,11 +41,3 @@ put-field n at next room after h l e q =
     let first = put-byte 32 at room (omega arith) in
     let few = few-digits n h in
     put-both first (record { fits = omega (arith, put-kept first); short = few; behind = e; stored = q })
-
--- ---- from the front of a room
-
-pub front-taken : {xs room after : List ℕ} {a n : ℕ} → Put xs a 0 room n after → take n after ≡ xs
-front-taken {xs} {room} {n = n} P = ap (take n) (P .stored) ∙ take-put 0 room xs (P .fits) n (sym (P .behind))
-
-pub front-into : {xs room after : List ℕ} {a n : ℕ} → Put xs a 0 room n after → after ≡ into xs room
-front-into {xs} {room} P = P .stored ∙ ap (λ k. xs ++ drop k room) (zero-add (length xs))

@@ -8,10 +8,10 @@ use lib.ListN.{getD}
 use Rattle.exact.specs.Lists.{from, each}
 use Rattle.exact.specs.Fractions.{reduced}
 use Rattle.exact.proofs.Numbers.{from-snoc}
+use Rattle.text.specs.Bytes.{Put}
+use Rattle.text.proofs.Puts.{each-snoc, put-as, put-both}
 use Rattle.report.specs.Listing.{wordLine}
-use Rattle.report.specs.Parts.{Put, wordLinesOf}
-use Rattle.report.proofs.Puts.{put-as, put-both}
-use Rattle.report.proofs.Lines.{each-snoc}
+use Rattle.report.specs.Parts.{wordLinesOf}
 
 lengths-next : (j : ℕ) → 1 ≤ j → from 1 (j - 1) ++ j ∷ [] ≡ from 1 (j + 1 - 1)
 lengths-next j h =

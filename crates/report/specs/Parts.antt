@@ -14,15 +14,7 @@ use Rattle.plan.specs.Good.{Good}
 use Rattle.words.specs.Answers.{wordList}
 use Rattle.resolution.specs.Resolution.{generalizedAnswer}
 use Rattle.resolution.specs.declared.GeneralizedAnswer.{GeneralizedAnswer}
-use Rattle.text.specs.Bytes.{putAt}
 use Rattle.report.specs.Listing.{wordLine, ratioLines, noResolutionLine, ratioCheck, printed}
-
--- the bytes xs, `most` of them at most, were put into a room from place `at` on: the place behind them, and the room then
-pub record Put (xs : List ℕ) (most at : ℕ) (room : List ℕ) (next : ℕ) (after : List ℕ) : Type 0 where
-  pub fits : at + length xs ≤ length room
-  pub short : length xs ≤ most
-  pub behind : next ≡ at + length xs
-  pub stored : after ≡ putAt at xs room
 
 -- a number of 64 bits has 20 digits or fewer, and a space before them
 abbrev pub mostOfLine : List ℕ → List ℕ → ℕ

@@ -6,10 +6,13 @@ use resolution::answers::generalized_of;
 use rules::Refusal;
 use rules::sizes::MOST_COLUMNS;
 use text::inner::write_number;
+ghost use mathlib.Core.Path.{_≡_};
 ghost use Prim.Native.Nat.{_+_, _*_, _≤_};
 ghost use lib.ListN.{length};
+ghost use Rattle.exact.specs.Lists.{into};
 ghost use Rattle.rules.specs.Plan.{plan};
 ghost use Rattle.plan.specs.Good.{Good};
+ghost use Rattle.text.specs.Bytes.{Put};
 ghost use Rattle.report.specs.Lines.{field, lineOf};
 ghost use Rattle.report.specs.Listing.{
   refusalLine,
@@ -19,7 +22,6 @@ ghost use Rattle.report.specs.Listing.{
   listing,
 };
 ghost use Rattle.report.specs.Parts.{
-  Put,
   mostOfLine,
   mostBytes,
   Shown,
@@ -76,6 +78,15 @@ fn write_refusal(refused: Refusal, room: &mut [u8]) -> usize
 {
     let numbers = [refused.number, refused.first as u64, refused.second as u64];
     write_line(b"refused", &numbers, room, 0)
+}
+
+// The same for a program that prints a refusal: the number of bytes in front of the room.
+pub fn refusal_line(refused: Refusal, room: &mut [u8]) -> usize
+    requires { ⌜ 71 ≤ length (now room) ⌝ }
+    ensures bytes { λ r. ⌜ r ≡ length (refusalLine refused) ⌝ }
+    ensures room { λ _. ⌜ now (room .exit) ≡ into (refusalLine refused) (now (room .entry)) ⌝ }
+{
+    write_refusal(refused, room)
 }
 
 // A line for each length, the words over the number of pairs, reduced.

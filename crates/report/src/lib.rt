@@ -5,7 +5,7 @@ ghost use Prim.Native.Nat.{_≤_};
 ghost use lib.ListN.{length, take};
 ghost use Rattle.report.specs.Listing.{listingAnswer, listingRoom};
 
-mod inner;
+pub mod inner;
 
 // No listing is longer: 24 lines of words take 1632 bytes at most, the others 207.
 pub const MOST_BYTES: usize = 2048;

@@ -9,12 +9,10 @@ use Rattle.rules.specs.declared.Refusal.{Refusal}
 use Rattle.rules.specs.Plan.{Plan, plan, columns, runs, longestText}
 use Rattle.rules.specs.Refusals.{refusal, accepted, plain, placed, planChecks}
 use Rattle.rules.proofs.Ranges.{unless-refused}
-use Rattle.plan.specs.Good.{Good}
-use Rattle.plan.proofs.Checks.{plan-refused, plan-passed, good-own}
+use Rattle.plan.proofs.Checks.{plan-refused, plan-passed}
 use Rattle.text.specs.declared.ReadAnswer.{ReadAnswer}
-use Rattle.text.specs.Text.{malformedLine, planOf, writeText}
-use Rattle.text.specs.Reader.{roomChecks, planRefusal, readRefusal, answered, readAnswer, refusedBy, filled}
-use Rattle.text.proofs.Written.{good-writable, good-short, written-formed, written-plan}
+use Rattle.text.specs.Text.{malformedLine, planOf}
+use Rattle.text.specs.Reader.{roomChecks, planRefusal, readRefusal, answered, refusedBy, filled}
 
 -- ---- a plan that was read
 
@@ -78,19 +76,3 @@ pub formed-answers : (text xs ys : List ℕ) (a b : ℕ) (r : ReadAnswer) (level
 formed-answers text xs ys a b r levels after table past h z e f A =
     let q : plan xs ys ≡ planOf text = ap₂ plan e f in
     rw (formed-text text a b h z) (subst (λ p. Answers (planRefusal p a b) p r levels after table past) q A)
-
--- ---- the text of a good plan
-
--- with rooms that are large enough the reader gives the plan back
-pub good-text : (p : Plan) → Good p → (levels table : List ℕ) → columns p ≤ length levels → length (p .table) ≤ length table →
-    readAnswer (writeText p) levels table ≡ answered accepted p
-unfolding planRefusal
-good-text p G levels table h k =
-    let a = length levels in
-    let b = length table in
-    let W = good-writable p G in
-    let e = written-plan p W in
-    let r : readRefusal (writeText p) a b ≡ accepted =
-    formed-text (writeText p) a b (good-short p G) (written-formed p W)
-    ∙ rw e (good-own p (roomChecks p a b) tt G ∙ room-enough p a b h k) in
-    rw (r, e)

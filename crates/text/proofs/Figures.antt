@@ -7,7 +7,7 @@ use Rattle.rules.specs.Plan.{Plan, plan}
 use Rattle.rules.specs.Refusals.{accepted, plain, placed, firstBadLevel, firstBadEntry}
 use Rattle.text.specs.Bytes.{bytes, lines}
 use Rattle.text.specs.Decimal.{decimal}
-use Rattle.text.specs.Text.{malformedLine, planOf, writeLine, writeText}
+use Rattle.text.specs.Text.{malformedLine, planOf, writeLine}
 use Rattle.text.specs.Reader.{readRefusal, answered, readAnswer, filled}
 
 -- document 01's four lines
@@ -24,10 +24,6 @@ room = replicate 7 9
 pub example-read : planOf example ≡ examplePlan
 unfolding planOf
 example-read = refl
-
-pub example-written : writeText examplePlan ≡ example
-unfolding writeText writeLine decimal
-example-written = refl
 
 pub example-answer : readAnswer example (9 ∷ 9 ∷ []) room ≡ answered accepted examplePlan
 unfolding readRefusal malformedLine planOf firstBadLevel firstBadEntry

@@ -1,12 +1,13 @@
 pub mod Split
 pub mod Digits
 pub mod Lines
-pub mod Written
 pub mod Named
 pub mod Places
+pub mod Puts
 pub mod Front
 pub mod LineLoop
 pub mod TextLoop
 pub mod Writing
 pub mod Answers
+pub mod InFront
 pub mod Figures

@@ -1,11 +1,11 @@
 -- Document 01, "Plan text and the listing": plan text. Byte 10 ends a line, 44 is the comma, 48 to 57 are the digits.
 use mathlib.Core.Bool.{Bool, true, false, cond, not, _&&_}
 use mathlib.Core.List.{List, [], _∷_, _++_, map}
-use Prim.Native.Nat.{ℕ, zero, suc, _+_}
+use Prim.Native.Nat.{ℕ, _+_}
 use lib.Dec.{eqb, leb}
-use lib.ListN.{length, take, drop}
+use lib.ListN.{length}
 use Rattle.exact.specs.Lists.{all, each}
-use Rattle.rules.specs.Plan.{Plan, plan, columns, runs}
+use Rattle.rules.specs.Plan.{Plan, plan}
 use Rattle.text.specs.Decimal.{decimal, value}
 
 -- ---- the pieces of a text
@@ -93,12 +93,3 @@ writeLine row = join 44 (map decimal row)
 abbrev pub writeLines : List (List ℕ) → List ℕ
 writeLines [] = []
 writeLines (row ∷ rows) = writeLine row ++ 10 ∷ writeLines rows
-
--- a table as n runs of m entries
-abbrev pub rowsOf : ℕ → ℕ → List ℕ → List (List ℕ)
-rowsOf m zero table = []
-rowsOf m (suc n) table = take m table ∷ rowsOf m n (drop m table)
-
--- the text of a plan
-unfoldable pub writeText : Plan → List ℕ
-writeText p = writeLines (p .levels ∷ rowsOf (columns p) (runs p) (p .table))

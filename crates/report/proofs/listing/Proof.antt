@@ -5,8 +5,8 @@ use native.Mathlib.Nat.{zero-add}
 use native.Mathlib.Omega.{arith}
 use lib.ListN.{length, take}
 use Rattle.exact.specs.Lists.{into}
+use Rattle.text.proofs.Puts.{front-taken, front-into}
 use Rattle.report.specs.Listing.{listing}
-use Rattle.report.proofs.Puts.{front-taken, front-into}
 use Rattle.report.proofs.Answers.{too-small, large-enough}
 use Rattle.report.proofs.listing.Statement.{statement}
 use Rattle.report.proofs.listing.Tie as tie

@@ -6,10 +6,9 @@ use native.Mathlib.Omega.{arith}
 use borrow.Author.Tests.{lt-ltb, le-ltb}
 use Rattle.rules.specs.Plan.{plan, runs}
 use Rattle.advice.specs.Advice.{advice}
-use Rattle.text.specs.Bytes.{bytes}
+use Rattle.text.specs.Bytes.{bytes, Put}
+use Rattle.text.proofs.Puts.{put-as}
 use Rattle.report.specs.Lines.{lineOf}
-use Rattle.report.specs.Parts.{Put}
-use Rattle.report.proofs.Puts.{put-as}
 use Rattle.report.proofs.Every.{every-many, every-standing}
 use Rattle.report.proofs.inner.write_advice.Statement.{statement}
 use Rattle.report.proofs.inner.write_advice.Tie as tie

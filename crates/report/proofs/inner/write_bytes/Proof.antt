@@ -3,7 +3,8 @@ use Prim.Native.Nat.{_-_, _≤_}
 use native.Mathlib.Nat.{add-zero}
 use native.Mathlib.Omega.{arith}
 use lib.ListN.{length}
-use Rattle.report.proofs.Puts.{PutFirst, put-none, put-kept, put-next, put-whole}
+use Rattle.text.proofs.Puts.{put-none, put-kept}
+use Rattle.report.proofs.Puts.{PutFirst, put-next, put-whole}
 use Rattle.report.proofs.inner.write_bytes.Statement.{statement}
 use Rattle.report.proofs.inner.write_bytes.Tie as tie
 

@@ -4,7 +4,7 @@ use native.Mathlib.Omega.{arith}
 use lib.ListN.{length}
 use Rattle.exact.proofs.Numbers.{mul-below}
 use Rattle.rules.specs.Plan.{mostRuns}
-use Rattle.report.proofs.Puts.{put-as, put-both, put-kept}
+use Rattle.text.proofs.Puts.{put-as, put-both, put-kept}
 use Rattle.report.proofs.Every.{every-many, every-sound}
 use Rattle.report.proofs.Measures.{words-shown, counts-whole}
 use Rattle.report.proofs.inner.write_counts.Statement.{statement}

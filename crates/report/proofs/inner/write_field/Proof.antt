@@ -2,7 +2,8 @@
 use borrow.Author.Needs.{needs}
 use native.Mathlib.Omega.{arith}
 use lib.ListN.{length-set}
-use Rattle.report.proofs.Puts.{few-digits, put-field, put-kept}
+use Rattle.text.proofs.Puts.{put-kept}
+use Rattle.report.proofs.Puts.{few-digits, put-field}
 use Rattle.report.proofs.inner.write_field.Statement.{statement}
 use Rattle.report.proofs.inner.write_field.Tie as tie
 

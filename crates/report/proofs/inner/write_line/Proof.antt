@@ -2,7 +2,7 @@
 use Prim.Native.Nat.{_-_, _≤_}
 use native.Mathlib.Omega.{arith}
 use lib.ListN.{length}
-use Rattle.report.proofs.Puts.{put-none, put-kept}
+use Rattle.text.proofs.Puts.{put-none, put-kept}
 use Rattle.report.proofs.Lines.{PutFields, field-next, line-left, line-whole}
 use Rattle.report.proofs.inner.write_line.Statement.{statement}
 use Rattle.report.proofs.inner.write_line.Tie as tie

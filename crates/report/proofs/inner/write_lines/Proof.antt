@@ -4,8 +4,8 @@ use mathlib.Core.Path.{ap}
 use mathlib.Core.List.{_++_}
 use native.Mathlib.Omega.{arith}
 use Rattle.rules.specs.Plan.{plan}
+use Rattle.text.proofs.Puts.{put-as, put-both}
 use Rattle.report.specs.Listing.{countLines, adviceLine, planListing}
-use Rattle.report.proofs.Puts.{put-as, put-both}
 use Rattle.report.proofs.Ratings.{not-above}
 use Rattle.report.proofs.inner.write_lines.Statement.{statement}
 use Rattle.report.proofs.inner.write_lines.Tie as tie

@@ -8,9 +8,10 @@ use lib.ListN.{length}
 use Rattle.rules.specs.Plan.{plan}
 use Rattle.plan.specs.Good.{Good}
 use Rattle.text.specs.Text.{planOf}
+use Rattle.text.proofs.Puts.{put-as}
+use Rattle.text.proofs.InFront.{InFront, entries-few, in-front}
 use Rattle.report.specs.Parts.{ratedListing}
-use Rattle.report.proofs.Puts.{put-as}
-use Rattle.report.proofs.Texts.{InFront, entries-few, listing-refused, listing-rated, in-front}
+use Rattle.report.proofs.Texts.{listing-refused, listing-rated}
 use Rattle.report.proofs.inner.write_listing.Statement.{statement}
 use Rattle.report.proofs.inner.write_listing.Tie as tie
 

@@ -11,7 +11,7 @@ use Rattle.resolution.specs.Given.{Measured, generalizedFrom}
 use Rattle.resolution.proofs.Answered.{generalized-is}
 use Rattle.resolution.proofs.Planned.{good-tabled}
 use Rattle.resolution.proofs.Rated.{own, rating-small}
-use Rattle.report.proofs.Puts.{put-as}
+use Rattle.text.proofs.Puts.{put-as}
 use Rattle.report.proofs.Ratings.{above-one, not-above}
 use Rattle.report.proofs.Texts.{rated-refused, rated-passed}
 use Rattle.report.proofs.inner.write_plan.Statement.{statement}

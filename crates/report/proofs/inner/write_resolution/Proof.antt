@@ -3,7 +3,7 @@ use borrow.Author.Needs.{needs}
 use mathlib.Core.Path.{refl}
 use native.Mathlib.Omega.{arith}
 use borrow.Author.Tests.{eq-eqb, ne-eqb}
-use Rattle.report.proofs.Puts.{put-as, put-both}
+use Rattle.text.proofs.Puts.{put-as, put-both}
 use Rattle.report.proofs.inner.write_resolution.Statement.{statement}
 use Rattle.report.proofs.inner.write_resolution.Tie as tie
 

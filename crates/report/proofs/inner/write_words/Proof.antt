@@ -6,9 +6,10 @@ use lib.IntN.{pos, natAbs}
 use lib.ListN.{getD}
 use Rattle.exact.specs.Fractions.{reduced}
 use Rattle.exact.proofs.Bits.{of}
+use Rattle.text.specs.Bytes.{Put}
+use Rattle.text.proofs.Puts.{put-none, put-kept}
 use Rattle.report.specs.Listing.{wordLine}
-use Rattle.report.specs.Parts.{Put, wordLinesOf}
-use Rattle.report.proofs.Puts.{put-none, put-kept}
+use Rattle.report.specs.Parts.{wordLinesOf}
 use Rattle.report.proofs.Words.{words-next, words-all}
 use Rattle.report.proofs.inner.write_words.Statement.{statement}
 use Rattle.report.proofs.inner.write_words.Tie as tie

@@ -29,12 +29,12 @@ digit-requires t c κs = omega (arith, c .if1 .taken)
 slice-write-room : (t : ℕ) → lts.Need-slice-write-room (digit.Asked, digit.Learnt, below t, number.Post) (given t) number.Post
 slice-write-room t c =
     let s = c .before .before .before in
-    omega (arith, s .pre .1, one-long (s .args .n) (c .before .if1 .taken))
+    omega (arith, s .pre .1, one-long (s .args .n) (omega (arith, c .before .if1 .taken)))
 
 add-result : (t : ℕ) → lts.Need-add-result (digit.Asked, digit.Learnt, below t, number.Post) (given t) number.Post
 add-result t c =
     let s = c .before .before .before in
-    omega (arith, s .pre .1, s .good, one-long (s .args .n) (c .before .if1 .taken))
+    omega (arith, s .pre .1, s .good, one-long (s .args .n) (omega (arith, c .before .if1 .taken)))
 
 same-length : (t : ℕ) → lts.Need-same-length (digit.Asked, digit.Learnt, below t, number.Post) (given t) number.Post
 same-length t c = let a = c .before .before .before .args in length-set (a .room .now) (a .at) (c .digit .result)
@@ -43,7 +43,7 @@ returns : (t : ℕ) → lts.Need-returns (digit.Asked, digit.Learnt, below t, nu
 returns t c =
     let s = c .before .before .before in
     let a = s .args in
-    let h = c .before .if1 .taken in
+    let h : a .n < 10 = omega (arith, c .before .if1 .taken) in
     let d = one-long (a .n) h in (
       ap (λ k. a .at + k) (sym d),
       ap (set (a .room .now) (a .at)) (c .digit .ensures) ∙ one-written (a .room .now) (a .at) (a .n) h (omega (arith, s .pre .1)),
@@ -52,8 +52,7 @@ returns t c =
 write-number-requires : (t : ℕ) → lts.Need-write-number-requires (digit.Asked, digit.Learnt, below t, number.Post) (given t) number.Post
 write-number-requires t c κs =
     let s = c .before .before .before in
-    let h = c .before .if1 .left in
-    (omega (arith, s .pre .0), omega (arith, s .pre .1, one-longer (s .args .n) h))
+    (omega (arith, s .pre .0), omega (arith, s .pre .1, one-longer (s .args .n) (omega (arith, c .before .if1 .left))))
 
 digit-requires-2 : (t : ℕ) → lts.Need-digit-requires-2 (digit.Asked, digit.Learnt, below t, number.Post) (given t) number.Post
 digit-requires-2 t c κs = omega arith

@@ -1,0 +1,121 @@
+#include "tried.h"
+
+int printf(const char *format, ...);
+void exit(int status);
+
+enum { LEAST = 100000, DIFFERENCES = 10 };
+
+Tally words = { .name = "crumb_word", .damages = WORD_DAMAGES, .refusals = { 1, 2, 3, 4, 5, 8 } };
+Tally listings = { .name = "crumb_listing", .damages = LISTING_DAMAGES, .refusals = { 13, 14, 1, 2, 3, 4, 5, 7 } };
+Tally writes = { .name = "crumb_write", .damages = PLAN_DAMAGES, .refusals = { 1, 2, 3, 4, 5, 7 } };
+Tally rewrites = { .name = "crumb_rewrite", .damages = REWRITE_DAMAGES, .refusals = { 13, 14, 1, 2, 3, 4, 5, 8, 9, 10, 7 } };
+static Tally *const tallies[] = { &words, &listings, &writes, &rewrites };
+enum { TALLIES = sizeof tallies / sizeof *tallies };
+static long differences;
+
+void note_at_once(Tally *tally, unsigned refusals)
+{
+    for (int a = 1; a < 16; a++)
+        for (int b = 1; b < 16; b++)
+            tally->at_once[a][b] += refusals >> a & refusals >> b & 1;
+}
+
+void note_answer(Tally *tally, long answer)
+{
+    tally->tried++;
+    tally->met[answer < 0 ? -answer : 0]++;
+    tally->met[7] += answer >= 0;
+}
+
+/* ---- at the end */
+
+static void print_met(const Tally *tally)
+{
+    printf("%s: %ld tried, %ld answered; refusals met:", tally->name, tally->tried, tally->met[0]);
+    for (const int *number = tally->refusals; *number; number++)
+        printf(" %d (%ld)", *number, tally->met[*number]);
+    printf("\n");
+}
+
+static long refusals_missing(const Tally *tally)
+{
+    long missing = 0;
+    for (const int *number = tally->refusals; *number; number++)
+        missing += tally->met[*number] == 0;
+    return missing;
+}
+
+static long two_refusals_missing(const Tally *tally)
+{
+    long missing = 0, least = tally->tried;
+    for (const int *a = tally->refusals; *a; a++)
+        for (const int *b = a + 1; *b; b++) {
+            long count = tally->at_once[*a][*b];
+            missing += count == 0;
+            least = count < least ? count : least;
+        }
+    printf("%s: every two refusals at once, each two at least %ld times\n", tally->name, least);
+    return missing;
+}
+
+static long damages_missing(const Tally *tally)
+{
+    long missing = 0, all = tally->damages * tally->damages;
+    for (int a = 0; a < tally->damages; a++)
+        for (int b = 0; b < tally->damages; b++)
+            missing += tally->damaged[a][b] == 0;
+    printf("%s: %ld of %ld ordered pairs of damages\n", tally->name, all - missing, all);
+    return missing;
+}
+
+static int too_little(const Tally *tally)
+{
+    long missing = refusals_missing(tally) + two_refusals_missing(tally) + damages_missing(tally);
+    if (tally->tried < LEAST || missing > 0)
+        printf("%s: NOT enough was tried\n", tally->name);
+    return tally->tried < LEAST || missing > 0;
+}
+
+void finish(int full)
+{
+    int status = differences > 0;
+    for (int k = 0; k < TALLIES; k++)
+        print_met(tallies[k]);
+    for (int k = 0; full && k < TALLIES; k++)
+        status |= too_little(tallies[k]);
+    printf("%s: %ld differ\n", differences == 0 ? "the same" : "NOT the same", differences);
+    exit(status);
+}
+
+/* ---- what differs */
+
+void differs(const char *what, long got, long wanted)
+{
+    if (differences == DIFFERENCES)
+        finish(0);
+    differences++;
+    printf("differs: %s gives %ld, the reference %ld", what, got, wanted);
+}
+
+void print_plan(const Plan *p)
+{
+    printf("; length %lu, levels", p->length);
+    for (long i = 0; i < p->columns; i++)
+        printf(" %d", p->levels[i]);
+    printf(", %ld entries", p->entries);
+    for (long k = 0; k < p->entries && k < 40; k++)
+        printf(" %d", p->table[k]);
+    printf("\n");
+}
+
+void print_text(const Text *t)
+{
+    printf("; text of %ld bytes:\n%.*s\n", t->length, (int)(t->length < 200 ? t->length : 200), (const char *)t->bytes);
+}
+
+void print_losses(const Losses *l)
+{
+    printf("; %ld lost:", l->count);
+    for (long k = 0; k < l->count && k < 40; k++)
+        printf(" %lu", l->runs[k]);
+}
