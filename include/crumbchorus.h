@@ -2,7 +2,7 @@
  *
  * A plan is a list of levels, one byte for each column, and a run table of
  * n times m bytes, run after run; an entry of column i is below its level.
- * 1 to 24 columns, 1 to 256 runs, levels 2 to 16, product of the levels at
+ * 1 to 24 columns, 1 to 256 runs, levels 1 to 16, product of the levels at
  * most 2,000,000,000. Runs, columns and places are numbered from 0.
  *
  * The functions keep nothing between calls, allocate nothing, write to no
@@ -29,7 +29,7 @@ extern "C" {
  *
  * It is never negative. A negative answer is a refusal number, negated:
  *   -1  no column, or more than 24
- *   -2  a level is outside 2..16
+ *   -2  a level is outside 1..16
  *   -3  the product of the levels is above its limit
  *   -4  the table is empty, not a multiple of the columns, or over 256 runs
  *   -5  an entry is not below its level

@@ -78,13 +78,15 @@ static void try_room(long length, long bytes, int late)
         differs("the text afterwards", 0, 0);
 }
 
-/* About how many scores the reference adds up for a listing, and how many entries it looks at for strength. */
+/* About how many scores the reference adds up for a listing, and how many entries it looks at for strength: a column of one level
+ * adds no combination, but sets where it is not left out. */
 static double listing_cost(const Read *plan)
 {
     double runs = (double)(plan->entries / plan->columns), sets = 1, combinations = 1;
+    long walked = reference_columns(plan->levels, plan->columns);
     for (long i = 0; i < plan->columns; i++) {
-        sets *= 2;
-        combinations *= plan->levels[i];
+        sets *= i < walked ? 2 : 1;
+        combinations *= plan->levels[i] > 1 ? plan->levels[i] : walked == plan->columns ? 2 : 1;
     }
     return (runs * runs * runs * sets + runs * combinations) * (double)plan->columns;
 }
@@ -186,8 +188,9 @@ static void try_lent_word(long answer, int compared, int late)
 static double word_cost(void)
 {
     double runs = (double)(plan.entries / plan.columns), sets = 1;
-    for (unsigned long k = 0; k < plan.length; k++)
-        sets = sets * (double)((unsigned long)plan.columns - k) / (double)(k + 1);
+    long walked = reference_columns(plan.levels, plan.columns);
+    for (long k = 0; k < (long)plan.length; k++)
+        sets = sets * (double)(walked - k) / (double)(k + 1);
     return runs * runs * sets * (double)plan.length;
 }
 
@@ -198,7 +201,7 @@ static void try_word(void)
     long answer = compared ? reference_word(plan.levels, plan.columns, plan.table, plan.entries, plan.length) : 0;
     words.tried++;
     words.uncompared += !compared;
-    words.met[answer < 0 ? -answer : 0]++;
+    words.met[answer < 0 && answer > -16 ? -answer : 0]++; /* an error planted in the reference may give any number */
     try_lent_word(answer, compared, 1);
     try_lent_word(answer, compared, 0);
 }
@@ -225,7 +228,7 @@ static void mend(unsigned bits)
 {
     bits |= bits & 128 ? 7 : 0;
     for (long i = 0; i < plan.columns && bits & 1; i++)
-        plan.levels[i] = (byte)(2 + plan.levels[i] % (bits & 16 && (plan.columns < 8 || bits & 32) ? 15 : 2));
+        plan.levels[i] = (byte)(1 + plan.levels[i] % (bits & 16 && (plan.columns < 8 || bits & 32) ? 16 : 3));
     if (plan.columns > 0 && bits & 2)
         plan.entries -= plan.entries % plan.columns;
     for (long k = 0; k < plan.entries && plan.columns > 0 && bits & 4; k++)

@@ -10,17 +10,23 @@ static void draw_table(Plan *p, long runs)
         p->table[k] = (byte)draw(p->levels[k % p->columns]);
 }
 
-/* Levels, mostly low, until there are so many columns or their product would pass the limit. */
+/* Of eight columns, how many have one level: none in half of the plans, in the others a few, half, most or all. */
+static unsigned long draw_share(void)
+{
+    static const unsigned long shares[] = { 0, 0, 0, 0, 0, 0, 2, 2, 4, 4, 7, 8 };
+    return shares[draw(sizeof shares / sizeof *shares)];
+}
+
+/* Levels, mostly low; 1 where another would take their product past the limit. */
 static void draw_levels(Plan *p, long columns, long limit)
 {
+    unsigned long share = draw_share();
     long product = 1;
     p->columns = 0;
     while (p->columns < columns) {
-        byte level = (byte)(draw(4) ? 2 + draw(3) : 2 + draw(15));
+        byte level = (byte)(draw(8) < share ? 1 : draw(4) ? 2 + draw(3) : 2 + draw(15));
         if (product * level > limit)
-            level = 2;
-        if (product * level > limit)
-            return;
+            level = product * 2 > limit ? 1 : 2;
         product *= level;
         p->levels[p->columns++] = level;
     }
@@ -114,6 +120,22 @@ void regular_fraction(Plan *p)
         p->table[k] = entry_of_sum(multiples[k % p->columns], k / p->columns, free, level);
 }
 
+static void insert_byte(byte *bytes, long count, long place, byte value)
+{
+    for (long k = count; k > place; k--)
+        bytes[k] = bytes[k - 1];
+    bytes[place] = value;
+}
+
+/* From the last run on, so that the entries before it keep their places. */
+void insert_one_level(Plan *p, long place)
+{
+    long runs = p->entries / p->columns;
+    for (long run = runs - 1; run >= 0; run--)
+        insert_byte(p->table, p->entries++, run * p->columns + place, 0);
+    insert_byte(p->levels, p->columns++, place, 1);
+}
+
 void take_runs_out(Plan *p, long count)
 {
     while (count-- > 0 && p->entries > p->columns) {
@@ -152,6 +174,8 @@ static void an_array(Plan *p)
         full_factorial(p);
     else
         regular_fraction(p);
+    for (long k = draw(3) ? 0 : 1 + (long)draw(2); k > 0; k--)
+        insert_one_level(p, (long)draw((unsigned long)p->columns + 1));
     if (draw(2))
         shuffle_runs(p);
     if (draw(8) == 0 && p->entries <= 12 * p->columns)
@@ -209,9 +233,9 @@ void damage(Plan *p, int kind)
     long i = p->columns > 0 ? (long)draw(p->columns) : 0;
     switch (kind) {
     case NO_COLUMN: p->columns = 0; break;
-    case COLUMNS_25: add_columns(p, 25, 2); break;
+    case COLUMNS_25: add_columns(p, 25, (byte)(1 + draw(2))); break;
     case LEVEL_0: p->levels[i] = 0; break;
-    case LEVEL_1: p->levels[i] = 1; break;
+    case LEVEL_17: p->levels[i] = 17; break;
     case LEVEL_ABOVE_16: p->levels[i] = (byte)(draw(2) ? 17 + draw(83) : 17 + draw(239)); break;
     case PRODUCT_ABOVE: raise_product(p); break;
     case NO_RUN: p->entries = 0; break;
@@ -227,7 +251,7 @@ void damage(Plan *p, int kind)
 static int a_level_is_bad(const Plan *p)
 {
     for (long i = 0; i < p->columns; i++)
-        if (p->levels[i] < 2 || p->levels[i] > 16)
+        if (p->levels[i] < 1 || p->levels[i] > 16)
             return 1;
     return 0;
 }
@@ -319,14 +343,6 @@ static byte odd_byte(void)
     return odd[draw(sizeof odd)];
 }
 
-static void insert_byte(Text *t, long place)
-{
-    for (long k = t->length; k > place; k--)
-        t->bytes[k] = t->bytes[k - 1];
-    t->bytes[place] = odd_byte();
-    t->length++;
-}
-
 static void cut_byte(Text *t, long place)
 {
     for (long k = place; k + 1 < t->length; k++)
@@ -350,7 +366,7 @@ void damage_text(Text *t, int kind)
     case NO_BYTE: t->length = 0; break;
     case UNENDED: t->length -= t->length > 0; break;
     case BYTE_REPLACED: t->bytes[place] = odd_byte(); break;
-    case BYTE_INSERTED: insert_byte(t, place); break;
+    case BYTE_INSERTED: insert_byte(t->bytes, t->length++, place, odd_byte()); break;
     case BYTE_CUT: cut_byte(t, place); break;
     case EMPTY_LINE: put_byte(t, 10); break;
     case BYTES_32768: fill_text(t, first_count(t), 32768); break;

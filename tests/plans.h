@@ -30,11 +30,14 @@ void wide_plan(Plan *p);
 /* Every combination of levels once. */
 void full_factorial(Plan *p);
 
-/* Every combination of some columns of one level; each further column is a sum of multiples of those. */
+/* Every combination of some columns with the same level; each further column is a sum of multiples of those. */
 void regular_fraction(Plan *p);
 
-/* Columns of one level, entries drawn, the first run all zero. */
+/* Columns with the same level, entries drawn, the first run all zero. */
 void even_plan(Plan *p, long columns, byte level, long runs);
+
+/* One column more, of one level. */
+void insert_one_level(Plan *p, long place);
 
 void take_runs_out(Plan *p, long count);
 void repeat_runs(Plan *p);
@@ -46,7 +49,7 @@ void a_plan(Plan *p);
 /* ---- damaged plans */
 
 enum {
-    NO_COLUMN, COLUMNS_25, LEVEL_0, LEVEL_1, LEVEL_ABOVE_16, PRODUCT_ABOVE, NO_RUN, TABLE_CUT, RUNS_257, ENTRY_FAR_ABOVE,
+    NO_COLUMN, COLUMNS_25, LEVEL_0, LEVEL_17, LEVEL_ABOVE_16, PRODUCT_ABOVE, NO_RUN, TABLE_CUT, RUNS_257, ENTRY_FAR_ABOVE,
     ENTRY_AT_LEVEL, PLAN_DAMAGES, LENGTH_0 = PLAN_DAMAGES, LENGTH_ABOVE, WORD_DAMAGES
 };
 

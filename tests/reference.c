@@ -15,7 +15,7 @@ Refusal reference_check(const byte *levels, long columns, const byte *table, lon
     if (columns < 1 || columns > 24)
         return refusal(1, 0, 0);
     for (long i = 0; i < columns; i++)
-        if (levels[i] < 2 || levels[i] > 16)
+        if (levels[i] < 1 || levels[i] > 16)
             return refusal(2, i, 0);
     wide product = 1;
     for (long i = 0; i < columns; i++)
@@ -58,6 +58,51 @@ static Plan whole(const byte *levels, long columns, const byte *table, long entr
     return p;
 }
 
+/* ---- columns of one level, left out or not */
+
+/* The definition itself is taken up to so many columns. */
+enum { SMALL = 10 };
+
+long reference_disagreements;
+
+/* Good until it is asked for again. */
+static Plan without_one_level(const Plan *p)
+{
+    static byte levels[24], table[256 * 24];
+    Plan q = { levels, table, 0, { 0 }, p->count };
+    long entries = 0;
+    for (long i = 0; i < p->columns; i++)
+        if (p->levels[i] > 1)
+            levels[q.columns++] = p->levels[i];
+    for (long run = 0; run < p->count; run++) {
+        q.runs[run] = run;
+        for (long i = 0; i < p->columns; i++)
+            if (p->levels[i] > 1)
+                table[entries++] = (byte)entry(p, run, i);
+    }
+    return q;
+}
+
+static int both_ways(const Plan *p, const Plan *several)
+{
+    return p->columns <= SMALL && several->columns < p->columns;
+}
+
+/* What the definition gives, where the short cut has to give the same. */
+static long agreed(long literal, long short_cut)
+{
+    reference_disagreements += literal != short_cut;
+    return literal;
+}
+
+long reference_columns(const byte *levels, long columns)
+{
+    long several = 0;
+    for (long i = 0; i < columns; i++)
+        several += levels[i] > 1;
+    return columns <= SMALL ? columns : several;
+}
+
 /* ---- sets of columns, in dictionary order */
 
 static int first_set(long *set, long size, long columns)
@@ -93,13 +138,20 @@ static long set_word(const Plan *p, const long *set, long size)
     return sum;
 }
 
-/* W_j */
-static long word(const Plan *p, long length)
+static long word_of(const Plan *p, long length)
 {
     long set[24], sum = 0;
     for (int more = first_set(set, length, p->columns); more; more = next_set(set, length, p->columns))
         sum += set_word(p, set, length);
     return sum;
+}
+
+/* W_j. A set that holds a column of one level has no word: all its scores there are 0. */
+static long word(const Plan *p, long length)
+{
+    Plan several = without_one_level(p);
+    long short_cut = word_of(&several, length);
+    return both_ways(p, &several) ? agreed(word_of(p, length), short_cut) : short_cut;
 }
 
 long reference_word(const byte *levels, long columns, const byte *table, long entries, unsigned long length)
@@ -144,7 +196,7 @@ static int even(const Plan *p, const long *set, long size)
     }
 }
 
-static long strength(const Plan *p)
+static long strength_of(const Plan *p)
 {
     for (long t = p->columns; t > 0; t--) {
         long set[24];
@@ -155,6 +207,14 @@ static long strength(const Plan *p)
             return t;
     }
     return 0;
+}
+
+/* A column of one level is balanced with anything, so that it adds no more than to a full strength. */
+static long strength(const Plan *p)
+{
+    Plan several = without_one_level(p);
+    long found = strength_of(&several), short_cut = found == several.columns ? p->columns : found;
+    return both_ways(p, &several) ? agreed(strength_of(p), short_cut) : short_cut;
 }
 
 /* ---- fractions */
@@ -190,20 +250,38 @@ static long resolution(const Plan *p)
     return p->columns + 1;
 }
 
-static Fraction largest_ratio(const Plan *p, long size)
+/* W(I)/(n²(s - 1)); 0/1, without a division, where s is 1. */
+static Fraction relative_value(const Plan *p, const long *set, long size)
+{
+    Fraction zero = { 0, 1 };
+    long smallest = 16;
+    for (long k = 0; k < size; k++)
+        if (p->levels[set[k]] < smallest)
+            smallest = p->levels[set[k]];
+    return smallest == 1 ? zero : reduced(set_word(p, set, size), (wide)p->count * p->count * (smallest - 1));
+}
+
+static Fraction largest_of(const Plan *p, long size)
 {
     Fraction largest = { 0, 1 };
     long set[24];
     for (int more = first_set(set, size, p->columns); more; more = next_set(set, size, p->columns)) {
-        long smallest = 16;
-        for (long k = 0; k < size; k++)
-            if (p->levels[set[k]] < smallest)
-                smallest = p->levels[set[k]];
-        Fraction x = reduced(set_word(p, set, size), (wide)p->count * p->count * (smallest - 1));
+        Fraction x = relative_value(p, set, size);
         if (less(largest, x))
             largest = x;
     }
     return largest;
+}
+
+static Fraction largest_ratio(const Plan *p, long size)
+{
+    Plan several = without_one_level(p);
+    Fraction short_cut = largest_of(&several, size);
+    if (!both_ways(p, &several))
+        return short_cut;
+    Fraction literal = largest_of(p, size);
+    reference_disagreements += less(literal, short_cut) || less(short_cut, literal);
+    return literal;
 }
 
 /* The smallest q is 1000 at most, since a ratio above 1 is refused. */

@@ -1,8 +1,11 @@
-/* An implementation of document 01 and of request #101, written from their
- * definitions alone. It shares no code with the product and takes no short
- * cut: sums over sets of columns of sums over ordered pairs of runs, counts
- * of every combination, a search through all candidates. Slow, for small
- * plans.
+/* An implementation of document 01 and of the requests #101 and #102, written
+ * from their definitions alone. It shares no code with the product: sums over
+ * sets of columns of sums over ordered pairs of runs, counts of every
+ * combination, a search through all candidates. Slow, for small plans.
+ *
+ * There is one short cut. In a plan of more than ten columns those of one
+ * level are left out of the sets. In a smaller plan both ways are taken, the
+ * answer is that of the definition, and the short cut has to give the same.
  */
 #ifndef REFERENCE_H
 #define REFERENCE_H
@@ -13,6 +16,12 @@ typedef struct {
     int number;
     long first, second;
 } Refusal;
+
+/* How often the short cut gave something else than the definition. */
+extern long reference_disagreements;
+
+/* How many columns of a good plan the reference makes sets of: all of them, or those of several levels. */
+long reference_columns(const byte *levels, long columns);
 
 /* Refusals 1 to 5; number 0 where there is none. */
 Refusal reference_check(const byte *levels, long columns, const byte *table, long entries);

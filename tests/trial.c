@@ -1,18 +1,20 @@
 /* Compares every exported function of the library with the reference on
  * generated inputs: good plans and damaged ones, two damages at a time in
  * both orders, boundary sizes, arrays with strength and runs taken out of
- * them, lists of lost runs, rooms too short by one. Prints its seed and what
- * it tried.
+ * them, columns of one level among others, lists of lost runs, rooms too
+ * short by one. Prints its seed and what it tried.
  *
  * Arguments: the seed, and 1 for a short run. The exit status is not 0 where
  * an answer differed, and in a full run also where a function was tried less
  * than 100,000 times, or a refusal, two refusals at once or two damages in
- * their order did not come up.
+ * their order did not come up, or plans with columns of one level, without
+ * any or of such alone fewer than 10,000 times.
  *
  * It declares what it needs of the C library, so that it compiles with the
  * kit's own clang, which comes without headers.
  */
 #include "trial_writers.h"
+#include "grades.h"
 #include "rooms.h"
 #include "draws.h"
 
@@ -28,7 +30,7 @@ static void try_word(const Plan *p)
     long wanted = reference_word(p->levels, p->columns, p->table, p->entries, p->length);
     long got = crumb_word(p->levels, (size)p->columns, p->table, (size)p->entries, p->length);
     words.tried++;
-    words.met[wanted < 0 ? -wanted : 0]++;
+    words.met[wanted < 0 && wanted > -16 ? -wanted : 0]++; /* an error planted in the reference may give any number */
     if (got != wanted) {
         differs("crumb_word", got, wanted);
         print_plan(p);
@@ -112,6 +114,7 @@ static void generated(long rounds)
     static Text text;
     for (long round = 0; round < rounds; round++) {
         a_plan(&plan);
+        note_levels(&plan);
         try_word_of(&plan, draw((unsigned long)plan.columns + 2));
         write_text(&plan, &text);
         for (long k = draw(3) ? 0 : 1 + (long)draw(2); k > 0; k--)
@@ -132,6 +135,7 @@ static void generated_writers(long rounds)
             a_plan(&plan);
         else
             wide_plan(&plan);
+        note_levels(&plan);
         try_write(&plan);
         write_text(&plan, &text);
         if (draw(4) == 0)
@@ -205,18 +209,18 @@ static void damaged(long rounds, const Tally *tally, void try(int a, int b))
 
 /* ---- at the limits */
 
-/* 24 and 25 columns. A listing of 24 takes the reference seconds. */
-static void many_columns(Plan *p, int full)
+/* 24 and 25 columns. A listing of 24 with two levels takes the reference seconds. */
+static void many_columns(Plan *p, byte level, int full)
 {
     static const unsigned long lengths[] = { 0, 1, 2, 3, 22, 23, 24, 25, 26, ~0UL, 1UL << 32, (1UL << 32) + 1, 1UL << 63 };
     static Text text;
     for (long columns = 23; columns <= 26; columns++)
         for (long runs = 1; runs <= 3; runs++) {
-            even_plan(p, columns, 2, runs);
+            even_plan(p, columns, level, runs);
             for (unsigned k = 0; k < sizeof lengths / sizeof *lengths; k++)
                 try_word_of(p, lengths[k]);
             write_text(p, &text);
-            if (columns > 24 || (full && runs <= 2))
+            if (columns > 24 || level == 1 || (full && runs <= 2))
                 try_listing(&text);
             try_writers(p);
         }
@@ -225,6 +229,7 @@ static void many_columns(Plan *p, int full)
 static void many_runs(Plan *p)
 {
     for (long runs = 255; runs <= 258; runs++) {
+        even_plan(p, 1, 1, runs), try_all(p);
         even_plan(p, 1, 2, runs), try_all(p);
         even_plan(p, 2, 3, runs), try_all(p);
         even_plan(p, 3, 16, runs), try_every_word(p), try_writers(p);
@@ -235,7 +240,8 @@ static void many_runs(Plan *p)
     try_all(p);
 }
 
-/* 2,000,000,000, the products of ten levels next above and below it, 3,000,000,000; then products beyond 32 and 64 bits. */
+/* 2,000,000,000, the products of ten levels next above and below it, 3,000,000,000, alone and among columns of one level; then
+ * products beyond 32 and 64 bits. */
 static void large_products(Plan *p)
 {
     static const byte at_limit[][10] = {
@@ -249,6 +255,9 @@ static void large_products(Plan *p)
             even_plan(p, 10, 2, runs);
             for (long i = 0; i < 10; i++)
                 p->levels[i] = at_limit[k][i];
+            try_all(p);
+            while (p->columns < 24)
+                insert_one_level(p, (long)draw((unsigned long)p->columns + 1));
             try_all(p);
         }
     for (long columns = 7; columns <= 24; columns++)
@@ -273,15 +282,46 @@ static void long_texts(Plan *p)
         }
 }
 
-/* The text of 257 lines with 22 numbers of one digit and two of two: no good plan has a longer one. */
+/* The most bytes that the text of a good plan can have: 24 columns, of which so many have two digits in their level and in every
+ * entry, from 11 levels on, and so many in their level alone, which is 10. The others can have one level. */
+static long most_bytes(void)
+{
+    long most = 0, product = 1;
+    for (long entries = 0; product <= 2000000000; entries++, product *= 11) {
+        long levels = 0;
+        for (long tens = product * 10; tens <= 2000000000; tens *= 10)
+            levels++;
+        long bytes = 257 * 48 + 257 * entries + levels;
+        most = bytes > most ? bytes : most;
+    }
+    return most;
+}
+
+/* Eight columns of 11 levels, every entry 10, and 16 columns of one level. */
 static void longest_text(Plan *p)
 {
-    even_plan(p, 24, 2, 256);
-    p->levels[22] = p->levels[23] = 11;
+    static Text text;
+    even_plan(p, 24, 1, 256);
+    for (long i = 16; i < 24; i++)
+        p->levels[i] = 11;
     for (long k = 0; k < p->entries; k++)
-        if (k % 24 >= 22)
-            p->table[k] = 10;
+        p->table[k] = k % 24 >= 16 ? 10 : 0;
+    write_text(p, &text);
+    printf("the longest text of a good plan: %ld bytes, and none can have more than %ld\n", text.length, most_bytes());
+    if (text.length != most_bytes())
+        differs("the longest text", text.length, most_bytes());
     try_writers(p);
+}
+
+/* ---- plans of 24 columns, some of one level */
+
+static void one_level_columns(Plan *p, int full)
+{
+    for (int kind = 0; kind < (full ? GRADES : SHORT_GRADES); kind++)
+        for (int order = 0; order < ORDERS; order++) {
+            make_grades(p, &grades[kind], order);
+            try_all(p);
+        }
 }
 
 /* A pointer whose length is 0 may be null. */
@@ -307,9 +347,11 @@ static void boundaries(int full)
     nothing_lent();
     large_products(&plan);
     long_texts(&plan);
-    many_columns(&plan, full);
+    many_columns(&plan, 1, full);
+    many_columns(&plan, 2, full);
     many_runs(&plan);
     longest_text(&plan);
+    one_level_columns(&plan, full);
 }
 
 int main(int count, char **arguments)

@@ -3,7 +3,7 @@
 int printf(const char *format, ...);
 void exit(int status);
 
-enum { LEAST = 100000, DIFFERENCES = 10 };
+enum { LEAST = 100000, LEAST_LEVELS = 10000, DIFFERENCES = 10 };
 
 Tally words = { .name = "crumb_word", .damages = WORD_DAMAGES, .refusals = { 1, 2, 3, 4, 5, 8 } };
 Tally listings = { .name = "crumb_listing", .damages = LISTING_DAMAGES, .refusals = { 13, 14, 1, 2, 3, 4, 5, 7 } };
@@ -12,6 +12,19 @@ Tally rewrites = { .name = "crumb_rewrite", .damages = REWRITE_DAMAGES, .refusal
 static Tally *const tallies[] = { &words, &listings, &writes, &rewrites };
 enum { TALLIES = sizeof tallies / sizeof *tallies };
 static long differences;
+
+/* Plans that were generated: without a column of one level, with such a one beside others, of such ones alone. */
+static long without, beside, alone;
+
+void note_levels(const Plan *p)
+{
+    long ones = 0;
+    for (long i = 0; i < p->columns; i++)
+        ones += p->levels[i] == 1;
+    without += ones == 0;
+    beside += ones > 0 && ones < p->columns;
+    alone += ones == p->columns;
+}
 
 void note_at_once(Tally *tally, unsigned refusals)
 {
@@ -76,13 +89,25 @@ static int too_little(const Tally *tally)
     return tally->tried < LEAST || missing > 0;
 }
 
+static int too_few_levels(void)
+{
+    int few = without < LEAST_LEVELS || beside < LEAST_LEVELS || alone < LEAST_LEVELS;
+    if (few)
+        printf("columns of one level: NOT enough was tried\n");
+    return few;
+}
+
 void finish(int full)
 {
-    int status = differences > 0;
+    int status = differences > 0 || reference_disagreements > 0;
+    printf("plans generated: %ld without a column of one level, %ld with such beside others, %ld of such alone\n",
+           without, beside, alone);
     for (int k = 0; k < TALLIES; k++)
         print_met(tallies[k]);
     for (int k = 0; full && k < TALLIES; k++)
         status |= too_little(tallies[k]);
+    status |= full && too_few_levels();
+    printf("the reference by definition and by its short cut: %ld differ\n", reference_disagreements);
     printf("%s: %ld differ\n", differences == 0 ? "the same" : "NOT the same", differences);
     exit(status);
 }

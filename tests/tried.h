@@ -21,6 +21,9 @@ typedef struct {
 
 extern Tally words, listings, writes, rewrites;
 
+/* A good plan that was generated. */
+void note_levels(const Plan *p);
+
 /* An input that deserves these refusals, bit 1 for refusal 1, and so on. */
 void note_at_once(Tally *tally, unsigned refusals);
 

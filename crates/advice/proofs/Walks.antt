@@ -1,6 +1,6 @@
 -- The turns of the loops: two rows compared length by length, and runs kept one after the other.
 use mathlib.Core.Path.{_≡_, refl, sym, _∙_, ap, ap₂}
-use mathlib.Core.Bool.{Bool, true, false, not, cond}
+use mathlib.Core.Bool.{not}
 use mathlib.Core.List.{List, [], _∷_, _++_, append-nil}
 use Prim.Native.Nat.{ℕ, _+_, _≤_, _<_}
 use native.Mathlib.Omega.{arith}
@@ -9,11 +9,12 @@ use lib.Dec.{eqb, eqb→eq, eqb-refl}
 use lib.IntN.{ℤ, pos}
 use lib.ListN.{length, getD, take, drop, set, replicate, length-append}
 use lib.Seq.{getD-take, length-take-le, take-suc, drop-cons, drop-length}
-use Rattle.exact.specs.Lists.{keep, into}
+use Rattle.exact.specs.Lists.{into}
 use Rattle.exact.specs.Fractions.{then}
 use Rattle.exact.specs.declared.fractions.Verdict.{Verdict}
 use Rattle.exact.specs.declared.fractions.Verdict.the-variants.{Equal}
 use Rattle.exact.proofs.Tests.{is-true, is-false}
+use Rattle.exact.proofs.Lists.{keep-++}
 use Rattle.exact.proofs.Rooms.{store-next}
 use Rattle.advice.specs.Advice.{without}
 use Rattle.advice.specs.Rows.{larger, largerRow}
@@ -42,15 +43,6 @@ module _ (m : ℕ) (a b : List ℤ) (p : m ≤ length a) (q : m ≤ length b) wh
       drop-all = ap (λ k. drop k (take m a)) (sym (length-take-le m a p)) ∙ drop-length (take m a)
 
 -- ---- the runs but one
-
-keep-++ : (test : ℕ → Bool) (xs ys : List ℕ) → keep test (xs ++ ys) ≡ keep test xs ++ keep test ys
-keep-++ test [] ys = refl
-keep-++ test (x ∷ xs) ys = go (test x) (keep-++ test xs ys)
-  where
-    go : (t : Bool) → keep test (xs ++ ys) ≡ keep test xs ++ keep test ys →
-        cond t (x ∷ keep test (xs ++ ys)) (keep test (xs ++ ys)) ≡ cond t (x ∷ keep test xs) (keep test xs) ++ keep test ys
-    go true e = ap (λ l. x ∷ l) e
-    go false e = e
 
 module _ (f : ℕ) (runs : List ℕ) (i : ℕ) (h : i < length runs) where
   without-turn : without f (take (i + 1) runs) ≡ without f (take i runs) ++ without f (getD runs i 0 ∷ [])

@@ -50,18 +50,20 @@ module _ {R C : Type 0} (level : C → ℕ) (entry : R → C → ℕ) (rs : List
     pub all-even : (J : List C) → List·Memᴰ J (choose t cols) → Even J
     pub most : (u : ℕ) → u ≤ length cols → ((J : List C) → List·Memᴰ J (choose u cols) → Even J) → u ≤ t
 
-  one-even : (t : ℕ) (cols : List C) → (0 < t → T (balanced level entry rs cols t)) → (J : List C) → List·Memᴰ J (choose t cols) → Even J
+  -- t = 0 always passes
+  pub passed : (cols : List C) (t : ℕ) → (0 < t → T (balanced level entry rs cols t)) → T (balanced level entry rs cols t)
   unfolding balanced even
-  one-even zero cols h J m = even→Even J (all-mem (even level entry rs) (choose 0 cols) tt J m)
-  one-even (suc t) cols h J m = even→Even J (all-mem (even level entry rs) (choose (suc t) cols) (h (omega arith)) J m)
+  passed cols zero h = tt
+  passed cols (suc t) h = h (omega arith)
 
   pub strength-is : (cols : List C) → IsStrength cols (strength level entry rs cols)
   unfolding strength balanced
   strength-is cols =
       let L = largest-is (balanced level entry rs cols) (length cols) in
+      let t = largest (balanced level entry rs cols) (length cols) in
       record {
         fits = L .within;
-        all-even = one-even (largest (balanced level entry rs cols) (length cols)) cols (L .passes);
+        all-even = λ J m. even→Even J (all-mem (even level entry rs) (choose t cols) (passed cols t (L .passes)) J m);
         most = λ u l h. L .most u l (mem-all (even level entry rs) (choose u cols) (λ J m. Even→even J (h J m)));
       }
 

@@ -1,7 +1,8 @@
--- Document 01, "Worked figures": the starred strengths, and a level that never occurs, in a single statement over their table.
+-- Document 01, "Worked figures": the starred strengths, a level that never occurs, and columns of one level, in a single statement over their table.
 use mathlib.Core.Path.{_≡_, refl}
 use mathlib.Core.List.{List, [], _∷_, map}
 use Prim.Native.Nat.{ℕ}
+use lib.ListN.{replicate}
 use Rattle.rules.specs.Plan.{Plan, plan, level, entry, everyRun, everyColumn}
 use Rattle.counts.specs.Counts.{even, balanced, strength}
 
@@ -23,6 +24,13 @@ figures =
     -- runs 0 1 of one column: level 2 never occurs and counts
     ∷ is (3 ∷ []) (0 ∷ 1 ∷ []) 0
     ∷ is (2 ∷ []) (0 ∷ 1 ∷ []) 1
+    -- a column of one level beside others: runs 0000 0011 1001 1010, then 00 01, then 00 00
+    ∷ is (2 ∷ 1 ∷ 2 ∷ 2 ∷ []) (0 ∷ 0 ∷ 0 ∷ 0 ∷ 0 ∷ 0 ∷ 1 ∷ 1 ∷ 1 ∷ 0 ∷ 0 ∷ 1 ∷ 1 ∷ 0 ∷ 1 ∷ 0 ∷ []) 2
+    ∷ is (1 ∷ 2 ∷ []) (0 ∷ 0 ∷ 0 ∷ 1 ∷ []) 2
+    ∷ is (1 ∷ 2 ∷ []) (0 ∷ 0 ∷ 0 ∷ 0 ∷ []) 0
+    -- columns of one level alone, with one run
+    ∷ is (1 ∷ 1 ∷ []) (0 ∷ 0 ∷ []) 2
+    ∷ is (replicate 24 1) (replicate 24 0) 24
     ∷ []
 
 found : Figure → ℕ

@@ -6,6 +6,7 @@ pub mod Figures
 pub mod Even
 pub mod Shown
 pub mod Wordless
+pub mod Several
 pub mod Ceiling
 pub mod Agreeing
 pub mod WordCounts

@@ -1,6 +1,6 @@
 -- The combinations of some columns have the numbers 0, 1, 2 and so on, so that they can be counted in an array.
 use mathlib.Core.Path.{_≡_, refl, sym, _∙_, ap, subst}
-use mathlib.Core.Bool.{Bool, true, false, _&&_}
+use mathlib.Core.Bool.{Bool, _&&_}
 use mathlib.Core.Logic.{_⊎_, inl, inr}
 use mathlib.Core.List.{List, [], _∷_, map, map-map, map-append, List·Memᴰ, List·Memᴰ·head, List·Memᴰ·tail, List·Memᴰ·not-nil}
 use mathlib.Core.List.{List·Memᴰ·append-cases, Memᴰ·of-map}
@@ -11,7 +11,7 @@ use native.Mathlib.Omega.{arith}
 use lib.Dec.{T, eqb, eqb→eq, eqb-refl}
 use Rattle.exact.specs.Lists.{from, each, alike, count}
 use Rattle.exact.proofs.Numbers.{from-add, mem-from}
-use Rattle.exact.proofs.Tests.{both, join}
+use Rattle.exact.proofs.Tests.{both, join, iff-eq}
 use Rattle.exact.proofs.Lists.{map-cong-in}
 use Rattle.counts.specs.Counts.{combinations, shows, tally, even}
 use Rattle.counts.specs.Numbered.{productOf, numberOf, tallyOf}
@@ -47,12 +47,6 @@ digit p x k a l h g e = go (decLt x a) (decLt a x)
     go (yes q) d = absurd (omega (arith, mul-le-mul-right p q))
     go (no q) (yes r) = absurd (omega (arith, mul-le-mul-right p r))
     go (no q) (no r) = omega arith
-
-iff-eq : (b c : Bool) → (T b → T c) → (T c → T b) → b ≡ c
-iff-eq true true f g = refl
-iff-eq true false f g = absurd (f tt)
-iff-eq false true f g = absurd (g tt)
-iff-eq false false f g = refl
 
 eq→eqb : {m n : ℕ} → m ≡ n → T (eqb m n)
 eq→eqb {m} {n} e = rw e (eqb-refl n)

@@ -10,17 +10,18 @@ use native.Mathlib.Decide.{ℕ-discrete}
 use native.Mathlib.Omega.{arith}
 use borrow.Author.Tests.{eq-eqb, ne-eqb}
 use lib.Dec.{eqb}
-use lib.ListN.{length, getD, take, drop, set, length-set, drop-of-length-le, replicate}
+use lib.ListN.{length, getD, take, drop, set, length-set, drop-of-length-le}
 use lib.Seq.{take-suc, drop-cons, take-at, getD-set-same, getD-set-other, ext-getD}
 use Rattle.exact.specs.Lists.{from, filledTo, all, alike, count, largest}
-use Rattle.exact.proofs.Numbers.{length-from, from-add, mem-from, map-from-at}
+use Rattle.exact.proofs.Numbers.{from-add, map-from-at}
 use Rattle.exact.proofs.Rooms.{length-numbered}
-use Rattle.exact.proofs.Members.{getD-mem, take-mem}
+use Rattle.exact.proofs.Members.{take-mem}
 use Rattle.exact.proofs.Lists.{count-snoc}
-use Rattle.rules.specs.Plan.{Plan, columns, level, entry, everyColumn, mostRuns}
-use Rattle.sets.specs.Sets.{setsOf, setAt, binom}
-use Rattle.sets.proofs.Pascal.{many-sets}
-use Rattle.sets.proofs.Parts.{choose-part, part-mem}
+use Rattle.rules.specs.Plan.{Plan, level, entry, mostRuns}
+use Rattle.sets.specs.Sets.{choose, binom}
+use Rattle.sets.proofs.Pascal.{length-choose}
+use Rattle.sets.proofs.Parts.{part-mem}
+use Rattle.sets.proofs.Among.{chosen, chosen-part, chosen-front}
 use Rattle.plan.specs.Good.{Sound}
 use Rattle.counts.specs.Counts.{even, balanced, strength}
 use Rattle.counts.specs.Numbered.{productOf, numberOf, tallyOf, tallies, Columns}
@@ -155,53 +156,40 @@ pub alike-rest : (xs : List ℕ) → all (drop 1 xs) (λ y. eqb (getD xs 0 0) y)
 alike-rest [] = refl
 alike-rest (x ∷ xs) = refl
 
--- ---- the sets of t columns, place after place
+-- ---- the sets of t of some columns, place after place
 
-module _ (p : Plan) (rs : List ℕ) (S : Sound p rs) (t k : ℕ) (h : k < binom (columns p) t) where
-  chosen : List·Memᴰ (setAt (columns p) t k) (setsOf (columns p) t)
-  unfolding setAt
-  chosen = getD-mem (setsOf (columns p) t) k [] (rw (many-sets t 0 (columns p)) h)
-
-  pub set-long : length (setAt (columns p) t k) ≡ t
-  set-long = choose-part t (from 0 (columns p)) (setAt (columns p) t k) chosen .1
-
-  -- what stands in the first t places of the row
-  pub set-front : take t (filledTo 24 0 (setAt (columns p) t k)) ≡ setAt (columns p) t k
-  set-front = take-at (setAt (columns p) t k) (replicate (24 - length (setAt (columns p) t k)) 0) t set-long
-
-  pub set-columns : Columns (p .levels) (setAt (columns p) t k)
-  set-columns = record { inside = below; low = λ i m. S .level-low i (below i m) }
+module _ (cols : List ℕ) (t k : ℕ) (h : k < binom (length cols) t) where
+  pub chosen-columns : {levels : List ℕ} → Columns levels cols → Columns levels (chosen cols t k)
+  chosen-columns K = record { inside = λ i m. K .inside i (among i m); low = λ i m. K .low i (among i m) }
     where
-      below : (i : ℕ) → List·Memᴰ i (setAt (columns p) t k) → i < columns p
-      below i m =
-          let q = mem-from 0 (columns p) (part-mem (choose-part t (from 0 (columns p)) (setAt (columns p) t k) chosen .0) i m) in omega arith
+      among : (i : ℕ) → List·Memᴰ i (chosen cols t k) → List·Memᴰ i cols
+      among = part-mem (chosen-part cols t k h)
 
   -- r says of the set at place k whether it is even
-  pub balanced-next : (r : Bool) → r ≡ even (level p) (entry p) rs (take t (filledTo 24 0 (setAt (columns p) t k))) →
-      all (drop k (setsOf (columns p) t)) (even (level p) (entry p) rs) ≡ (r && all (drop (k + 1) (setsOf (columns p) t)) (even (level p) (entry p) rs))
-  unfolding setAt
-  balanced-next r e =
-      all-next (even (level p) (entry p) rs) (setsOf (columns p) t) k [] (rw (many-sets t 0 (columns p)) h)
-      ∙ ap (λ b. b && all (drop (k + 1) (setsOf (columns p) t)) (even (level p) (entry p) rs))
-      (sym (e ∙ ap (even (level p) (entry p) rs) set-front))
+  pub balanced-next : (p : Plan) (rs : List ℕ) (r : Bool) → r ≡ even (level p) (entry p) rs (take t (filledTo 24 0 (chosen cols t k))) →
+      all (drop k (choose t cols)) (even (level p) (entry p) rs) ≡ (r && all (drop (k + 1) (choose t cols)) (even (level p) (entry p) rs))
+  balanced-next p rs r e =
+      all-next (even (level p) (entry p) rs) (choose t cols) k [] (rw (length-choose t cols) h)
+      ∙ ap (λ b. b && all (drop (k + 1) (choose t cols)) (even (level p) (entry p) rs))
+      (sym (e ∙ ap (even (level p) (entry p) rs) (chosen-front cols t k h)))
 
 -- ---- the search from the top
 
-module _ (p : Plan) (rs : List ℕ) where
+module _ (p : Plan) (rs cols : List ℕ) where
   -- the strength is found among the numbers up to t
   abbrev pub Found : ℕ → Type 0
-  Found t = largest (balanced (level p) (entry p) rs (everyColumn p)) t ≡ strength (level p) (entry p) rs (everyColumn p)
+  Found t = largest (balanced (level p) (entry p) rs cols) t ≡ strength (level p) (entry p) rs cols
 
-  pub found-top : Found (columns p)
+  pub found-top : Found (length cols)
   unfolding strength
-  found-top = ap (largest (balanced (level p) (entry p) rs (everyColumn p))) (sym (length-from 0 (columns p)))
+  found-top = refl
 
   -- r says whether t passes
-  pub found-here : (t : ℕ) (r : Bool) → 0 < t → r ≡ balanced (level p) (entry p) rs (everyColumn p) t → r ≡ true → Found t →
-      t ≡ strength (level p) (entry p) rs (everyColumn p)
+  pub found-here : (t : ℕ) (r : Bool) → 0 < t → r ≡ balanced (level p) (entry p) rs cols t → r ≡ true → Found t →
+      t ≡ strength (level p) (entry p) rs cols
   found-here zero r h d e g = absurd (omega arith)
   found-here (suc t) r h d e g = rw (sym d ∙ e) at g
 
-  pub found-lower : (t : ℕ) (r : Bool) → 0 < t → r ≡ balanced (level p) (entry p) rs (everyColumn p) t → r ≡ false → Found t → Found (t - 1)
+  pub found-lower : (t : ℕ) (r : Bool) → 0 < t → r ≡ balanced (level p) (entry p) rs cols t → r ≡ false → Found t → Found (t - 1)
   found-lower zero r h d e g = absurd (omega arith)
   found-lower (suc t) r h d e g = let q : suc t - 1 ≡ t = omega arith in rw q (rw (sym d ∙ e) at g)

@@ -1,12 +1,13 @@
 // For our own crates: counts over some runs of a plan, which each caller has shown to be sound.
+use plan::inner::several_levels;
 use sets::inner::binomial;
-use sets::inner::set_at;
+use sets::inner::set_of;
 ghost use mathlib.Core.Path.{_≡_};
 ghost use mathlib.Core.List.{[], _∷_};
 ghost use Prim.Native.Nat.{_+_, _≤_, min};
 ghost use lib.ListN.{length};
 ghost use Rattle.exact.specs.Lists.{alike};
-ghost use Rattle.rules.specs.Plan.{plan, level, entry, everyColumn, mostRuns};
+ghost use Rattle.rules.specs.Plan.{plan, level, entry, everyColumn, mostColumns, mostRuns};
 ghost use Rattle.plan.specs.Good.{Sound};
 ghost use Rattle.counts.specs.Counts.{even, balanced, strength};
 ghost use Rattle.counts.specs.Numbered.{productOf, numberOf, tallies, Columns};
@@ -89,18 +90,19 @@ pub fn is_even(levels: &[u8], table: &[u8], runs: &[usize], columns: &[usize]) -
     are_alike(&counters[..product])
 }
 
-// Whether that is so in every choice of t columns. The walk over the sets ends at the first that is not even.
-pub fn is_balanced(levels: &[u8], table: &[u8], runs: &[usize], t: usize) -> bool
+// Whether that is so in every choice of t of these columns. The walk over the sets ends at the first that is not even.
+pub fn is_balanced(levels: &[u8], table: &[u8], runs: &[usize], columns: &[usize], t: usize) -> bool
     requires { ⌜ Sound (plan (now levels) (now table)) (now runs) ⌝ }
     requires { ⌜ 1 ≤ length (now runs) ⌝ }
-    requires { ⌜ t ≤ length (now levels) ⌝ }
+    requires { ⌜ Columns (now levels) (now columns) ⌝ }
+    requires { ⌜ (length (now columns) ≤ mostColumns) × (t ≤ length (now columns)) ⌝ }
     ensures { λ r.
-        ⌜ (let p = plan (now (levels .entry)) (now (table .entry)) in r ≡ balanced (level p) (entry p) (now (runs .entry)) (everyColumn p) t) ⌝ }
+        ⌜ (let p = plan (now (levels .entry)) (now (table .entry)) in
+        r ≡ balanced (level p) (entry p) (now (runs .entry)) (now (columns .entry)) t) ⌝ }
 {
-    let m = levels.len();
-    let many = binomial(m, t);
+    let many = binomial(columns.len(), t);
     for k in 0..many {
-        let set = set_at(m, t, k);
+        let set = set_of(columns, t, k);
         if !is_even(levels, table, runs, &set[..t]) {
             return false;
         }
@@ -109,18 +111,38 @@ pub fn is_balanced(levels: &[u8], table: &[u8], runs: &[usize], t: usize) -> boo
 }
 
 // The largest t for which that is so. A set with more combinations than runs ends its walk at once, so that a high t costs one set.
+pub fn strength_of(levels: &[u8], table: &[u8], runs: &[usize], columns: &[usize]) -> usize
+    requires { ⌜ Sound (plan (now levels) (now table)) (now runs) ⌝ }
+    requires { ⌜ 1 ≤ length (now runs) ⌝ }
+    requires { ⌜ Columns (now levels) (now columns) ⌝ }
+    requires { ⌜ length (now columns) ≤ mostColumns ⌝ }
+    ensures { λ r.
+        ⌜ (let p = plan (now (levels .entry)) (now (table .entry)) in
+        r ≡ strength (level p) (entry p) (now (runs .entry)) (now (columns .entry))) ⌝ }
+{
+    let mut t = columns.len();
+    while 0 < t {
+        if is_balanced(levels, table, runs, columns, t) {
+            return t;
+        }
+        t -= 1;
+    }
+    0
+}
+
+// The strength of all columns. Those of one level are even with any others: they are left out of the search, and count where all others pass.
 pub fn strength(levels: &[u8], table: &[u8], runs: &[usize]) -> usize
     requires { ⌜ Sound (plan (now levels) (now table)) (now runs) ⌝ }
     requires { ⌜ 1 ≤ length (now runs) ⌝ }
     ensures { λ r.
         ⌜ (let p = plan (now (levels .entry)) (now (table .entry)) in r ≡ strength (level p) (entry p) (now (runs .entry)) (everyColumn p)) ⌝ }
 {
-    let mut t = levels.len();
-    while 0 < t {
-        if is_balanced(levels, table, runs, t) {
-            return t;
-        }
-        t -= 1;
+    let several = several_levels(levels);
+    let columns = several.columns;
+    let many = several.many;
+    let found = strength_of(levels, table, runs, &columns[..many]);
+    if found == many {
+        return levels.len();
     }
-    0
+    found
 }

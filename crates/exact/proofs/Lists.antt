@@ -1,12 +1,12 @@
--- Lists, whatever they hold: what `map`, `count` and `getD` do to a part, to one member more, or to the members one by one.
-use mathlib.Core.Path.{_≡_, refl, sym, _∙_, ap, ap₂, subst}
-use mathlib.Core.Bool.{Bool, true, false, cond}
+-- Lists, whatever they hold: what `map`, `keep`, `count` and `getD` do to a part, to one member more, or to the members one by one.
+use mathlib.Core.Path.{_≡_, refl, sym, _∙_, ap, ap₂, subst, fun-ext}
+use mathlib.Core.Bool.{Bool, true, false, cond, _&&_}
 use mathlib.Core.List.{List, [], _∷_, _++_, map, append-assoc, append-nil, List·Memᴰ, List·Memᴰ·head, List·Memᴰ·tail}
 use Prim.Native.Nat.{ℕ, zero, suc, _+_, _-_, _≤_, _<_}
 use native.Mathlib.Omega.{arith}
 use lib.ListN.{length, getD, set, take, drop}
 use lib.Seq.{drop-cons}
-use Rattle.exact.specs.Lists.{count}
+use Rattle.exact.specs.Lists.{keep, count}
 
 module _ {A : Type 0} where
   -- what holds of no member and is kept by one more at the end holds of every list
@@ -54,6 +54,68 @@ module _ {A : Type 0} (test : A → Bool) where
       go : (b : Bool) → count test xs ≤ length xs → cond b (suc (count test xs)) (count test xs) ≤ suc (length xs)
       go true h = omega arith
       go false h = omega arith
+
+-- ---- keep
+
+module _ {A : Type 0} (test : A → Bool) where
+  pub keep-++ : (xs ys : List A) → keep test (xs ++ ys) ≡ keep test xs ++ keep test ys
+  keep-++ [] ys = refl
+  keep-++ (x ∷ xs) ys = go (test x) (keep-++ xs ys)
+    where
+      go : (t : Bool) → keep test (xs ++ ys) ≡ keep test xs ++ keep test ys →
+          cond t (x ∷ keep test (xs ++ ys)) (keep test (xs ++ ys)) ≡ cond t (x ∷ keep test xs) (keep test xs) ++ keep test ys
+      go true e = ap (λ l. x ∷ l) e
+      go false e = e
+
+  pub keep-map : {B : Type 0} (g : B → A) (xs : List B) → keep test (map g xs) ≡ map g (keep (λ x. test (g x)) xs)
+  keep-map g [] = refl
+  keep-map g (x ∷ xs) = go (test (g x)) (keep-map g xs)
+    where
+      go : (t : Bool) → keep test (map g xs) ≡ map g (keep (λ x. test (g x)) xs) →
+          cond t (g x ∷ keep test (map g xs)) (keep test (map g xs)) ≡ map g (cond t (x ∷ keep (λ x. test (g x)) xs) (keep (λ x. test (g x)) xs))
+      go true e = ap (λ l. g x ∷ l) e
+      go false e = e
+
+  pub keep-most : (xs : List A) → length (keep test xs) ≤ length xs
+  keep-most [] = omega arith
+  keep-most (x ∷ xs) = go (test x) (keep-most xs)
+    where
+      go : (t : Bool) → length (keep test xs) ≤ length xs → length (cond t (x ∷ keep test xs) (keep test xs)) ≤ suc (length xs)
+      go true h = omega arith
+      go false h = omega arith
+
+module _ {A : Type 0} where
+  pub keep-keep : (p q : A → Bool) (xs : List A) → keep p (keep q xs) ≡ keep (λ x. q x && p x) xs
+  keep-keep p q [] = refl
+  keep-keep p q (x ∷ xs) = go (q x) (keep-keep p q xs)
+    where
+      under : (b : Bool) → keep p (keep q xs) ≡ keep (λ y. q y && p y) xs →
+          cond b (x ∷ keep p (keep q xs)) (keep p (keep q xs)) ≡ cond b (x ∷ keep (λ y. q y && p y) xs) (keep (λ y. q y && p y) xs)
+      under true e = ap (λ l. x ∷ l) e
+      under false e = e
+
+      go : (b : Bool) → keep p (keep q xs) ≡ keep (λ y. q y && p y) xs →
+          keep p (cond b (x ∷ keep q xs) (keep q xs)) ≡ cond (b && p x) (x ∷ keep (λ y. q y && p y) xs) (keep (λ y. q y && p y) xs)
+      go true e = under (p x) e
+      go false e = e
+
+  pub keep-swap : (p q : A → Bool) (xs : List A) → keep p (keep q xs) ≡ keep q (keep p xs)
+  keep-swap p q xs =
+      keep-keep p q xs ∙ ap (λ test. keep test xs) (fun-ext (λ x. swap (q x) (p x))) ∙ sym (keep-keep q p xs)
+    where
+      swap : (a b : Bool) → (a && b) ≡ (b && a)
+      swap true true = refl
+      swap true false = refl
+      swap false true = refl
+      swap false false = refl
+
+  pub keep-all : (xs : List A) → keep (λ x. true) xs ≡ xs
+  keep-all [] = refl
+  keep-all (x ∷ xs) = ap (λ l. x ∷ l) (keep-all xs)
+
+  pub keep-none : (xs : List A) → keep (λ x. false) xs ≡ []
+  keep-none [] = refl
+  keep-none (x ∷ xs) = keep-none xs
 
 -- ---- map
 

@@ -1,6 +1,6 @@
 -- The members of a list: those of a part of it, of what is kept of it, and of a list of numbers as its own test finds them.
 use mathlib.Core.Path.{_≡_, refl, _∙_, ap}
-use mathlib.Core.Bool.{Bool, true, false, cond, _||_}
+use mathlib.Core.Bool.{Bool, true, false, cond, _&&_, _||_}
 use mathlib.Core.Logic.{_⊎_, inl, inr}
 use mathlib.Core.List.{List, [], _∷_, List·Memᴰ, List·Memᴰ·head, List·Memᴰ·tail, List·Memᴰ·not-nil, List·Memᴰ·cases-cons}
 use Prim.Native.Nat.{ℕ, zero, suc, _<_}
@@ -8,7 +8,7 @@ use native.Mathlib.Omega.{arith}
 use borrow.Author.Tests.{eq-eqb, eqb-true}
 use lib.Dec.{eqb}
 use lib.ListN.{length, getD, take}
-use Rattle.exact.specs.Lists.{keep, holds}
+use Rattle.exact.specs.Lists.{all, keep, holds}
 use Rattle.exact.proofs.Tests.{clash}
 
 module _ {A : Type 0} where
@@ -34,6 +34,30 @@ module _ {A : Type 0} where
       go : (b : Bool) → (List·Memᴰ x (keep test ys) → List·Memᴰ x ys) → List·Memᴰ x (cond b (y ∷ keep test ys) (keep test ys)) → List·Memᴰ x (y ∷ ys)
       go true h k = under h k
       go false h k = List·Memᴰ·tail (h k)
+
+  pub keep-passes : (test : A → Bool) (xs : List A) (x : A) → List·Memᴰ x (keep test xs) → test x ≡ true
+  keep-passes test [] x m = absurd (List·Memᴰ·not-nil m)
+  keep-passes test (y ∷ ys) x m = go (test y) refl (λ k. keep-passes test ys x k) m
+    where
+      under : test y ≡ true → (List·Memᴰ x (keep test ys) → test x ≡ true) → List·Memᴰ x (y ∷ keep test ys) → test x ≡ true
+      under p later (List·Memᴰ·head e) = ap test e ∙ p
+      under p later (List·Memᴰ·tail k) = later k
+
+      go : (b : Bool) → test y ≡ b → (List·Memᴰ x (keep test ys) → test x ≡ true) → List·Memᴰ x (cond b (y ∷ keep test ys) (keep test ys)) → test x ≡ true
+      go true p later k = under p later k
+      go false p later k = later k
+
+  -- where not all pass, one does not
+  abbrev pub Fails : (A → Bool) → List A → Type 0
+  Fails test xs = (x : A) × List·Memᴰ x xs × (test x ≡ false)
+
+  pub some-fails : (test : A → Bool) (xs : List A) → all xs test ≡ false → Fails test xs
+  some-fails test [] e = clash true refl e
+  some-fails test (y ∷ ys) e = go (test y) refl (some-fails test ys) e
+    where
+      go : (b : Bool) → test y ≡ b → (all ys test ≡ false → Fails test ys) → (b && all ys test) ≡ false → Fails test (y ∷ ys)
+      go true p later d = let (x, m, q) = later d in (x, List·Memᴰ·tail m, q)
+      go false p later d = (y, List·Memᴰ·head refl, p)
 
 -- ---- a list of numbers
 

@@ -4,7 +4,7 @@ use Prim.Native.Nat.{ℕ, _*_, _/_, _≤_, _<_, _∣_}
 use native.Mathlib.Nat.{mul-comm, one-mul, eq-of-mul-eq-mul-right, dvd-mul-right, pos-of-dvd-of-pos}
 use native.Mathlib.Nat.{div-mul-cancel, div-le-self, div-self, zero-div, mul-div-mul-right}
 use native.Mathlib.Omega.{arith}
-use Rattle.exact.specs.Fractions.{gcd, reduced}
+use Rattle.exact.specs.Fractions.{gcd, zeroFraction, reduced}
 use Rattle.exact.proofs.Divisors.{gcd-is, gcd-*, gcd-pos, gcd-zero-left}
 
 module _ (a b : ℕ) where
@@ -41,7 +41,7 @@ module _ (a b : ℕ) where
       eq-of-mul-eq-mul-right g (gcd-pos a b h) (gcd (a / g) (b / g)) 1
       (sym (gcd-* (a / g) (b / g) g (gcd-pos a b h)) ∙ rw (left, right) (sym (one-mul g)))
 
-pub reduced-zero : (b : ℕ) → 0 < b → reduced 0 b ≡ record { num = 0; den = 1 }
+pub reduced-zero : (b : ℕ) → 0 < b → reduced 0 b ≡ zeroFraction
 unfolding reduced
 reduced-zero b h = rw (gcd-zero-left b, zero-div b, div-self h)
 

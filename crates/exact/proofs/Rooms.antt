@@ -1,6 +1,6 @@
 -- A loop that fills a room from the front, one store a turn: with g 0, g 1, .. or with the members of a list.
 use mathlib.Core.Path.{_≡_, refl, sym, ap, _∙_}
-use mathlib.Core.List.{List, [], _∷_, _++_, map, append-nil}
+use mathlib.Core.List.{List, [], _∷_, _++_, map, append-nil, append-assoc}
 use Prim.Native.Nat.{ℕ, zero, suc, _+_, _-_, _≤_, _<_}
 use native.Mathlib.Nat.{zero-add}
 use native.Mathlib.Numerals.{add-one}
@@ -68,3 +68,9 @@ module _ {A : Type 0} where
   -- a room that held only d
   pub into-blank : (xs : List A) (n : ℕ) (d : A) → into xs (replicate n d) ≡ filledTo n d xs
   into-blank xs n d = ap (λ l. xs ++ l) (drop-replicate (length xs) n d)
+
+  -- one more in a room that holds d in the places left over
+  pub filled-next : (n : ℕ) (d : A) (xs : List A) (v : A) → length xs < n → set (filledTo n d xs) (length xs) v ≡ filledTo n d (xs ++ v ∷ [])
+  filled-next n d xs v h =
+      let e : n - length xs ≡ suc (n - (length xs + 1)) = omega arith in
+      rw (e, length-append xs (v ∷ []), append-assoc) (set-at xs d (replicate (n - (length xs + 1)) d) v (length xs) refl)

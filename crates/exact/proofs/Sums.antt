@@ -1,10 +1,11 @@
 -- Sums and products over a list, in ℤ. A law's name says what it is of: `sum-++` of an append, `sum-swap` of two sums, `sum-at` of one member.
 use mathlib.Core.Path.{_≡_, refl, sym, _∙_, ap, fun-ext}
-use mathlib.Core.List.{List, [], _∷_, _++_, map, List·Memᴰ, List·Memᴰ·head, List·Memᴰ·tail}
+use mathlib.Core.Bool.{Bool, true, false, cond}
+use mathlib.Core.List.{List, [], _∷_, _++_, map, List·Memᴰ, List·Memᴰ·head, List·Memᴰ·tail, List·Memᴰ·not-nil}
 use lib.ListN.{length}
 use lib.IntN.{ℤ, pos, _+ℤ_, _*ℤ_, +ℤ-assoc, +ℤ-comm, +ℤ-idl, *ℤ-zero, zero-*ℤ, sucℤ-*ℤ}
 use Rattle.exact.proofs.Ring.{ring, *-+, *-assoc, one-*}
-use Rattle.exact.specs.Lists.{sum, prod}
+use Rattle.exact.specs.Lists.{sum, prod, keep}
 
 module _ {A : Type 0} where
   pub sum-cong : (xs : List A) {f g : A → ℤ} → ((x : A) → f x ≡ g x) → sum xs f ≡ sum xs g
@@ -40,6 +41,21 @@ module _ {A : Type 0} where
   pub prod-* : (xs : List A) (f g : A → ℤ) → prod xs (λ x. f x *ℤ g x) ≡ prod xs f *ℤ prod xs g
   prod-* [] f g = refl
   prod-* (x ∷ xs) f g = rw (prod-* xs f g) (simp ring)
+
+  pub prod-0 : (xs : List A) (f : A → ℤ) (x : A) → List·Memᴰ x xs → f x ≡ pos 0 → prod xs f ≡ pos 0
+  prod-0 [] f x m e = absurd (List·Memᴰ·not-nil m)
+  prod-0 (y ∷ ys) f x (List·Memᴰ·head d) e = rw (sym (ap f d) ∙ e) (zero-*ℤ (prod ys f))
+  prod-0 (y ∷ ys) f x (List·Memᴰ·tail m) e = rw (prod-0 ys f x m e) (*ℤ-zero (f y))
+
+  -- members that add nothing may be left out
+  pub sum-keep : (test : A → Bool) (xs : List A) (f : A → ℤ) → ((x : A) → List·Memᴰ x xs → test x ≡ false → f x ≡ pos 0) →
+      sum xs f ≡ sum (keep test xs) f
+  sum-keep test [] f h = refl
+  sum-keep test (x ∷ xs) f h = rw (sum-keep test xs f (λ y m. h y (List·Memᴰ·tail m))) (go (test x) refl)
+    where
+      go : (b : Bool) → test x ≡ b → f x +ℤ sum (keep test xs) f ≡ sum (cond b (x ∷ keep test xs) (keep test xs)) f
+      go true e = refl
+      go false e = rw (h x (List·Memᴰ·head refl) e) (+ℤ-idl (sum (keep test xs) f))
 
   -- one element, wherever it stands
   pub sum-at : (ps : List A) (x : A) (qs : List A) (f : A → ℤ) → sum (ps ++ x ∷ qs) f ≡ f x +ℤ sum (ps ++ qs) f

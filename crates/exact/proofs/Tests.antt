@@ -19,6 +19,13 @@ true-is b e = rw e tt
 pub false-is : (b : Bool) → b ≡ false → ¬ (T b)
 false-is b e t = subst T e t
 
+-- two tests that tell the same are equal
+pub iff-eq : (b c : Bool) → (T b → T c) → (T c → T b) → b ≡ c
+iff-eq true true f g = refl
+iff-eq true false f g = absurd (f tt)
+iff-eq false true f g = absurd (g tt)
+iff-eq false false f g = refl
+
 -- ---- and, or
 
 pub both : (a b : Bool) → T (a && b) → T a × T b

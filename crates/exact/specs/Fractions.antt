@@ -15,6 +15,9 @@ dividesBoth a b d = eqb (a % d) 0 && eqb (b % d) 0
 unfoldable pub gcd : ℕ → ℕ → ℕ
 gcd a b = largest (dividesBoth a b) (max a b)
 
+abbrev pub zeroFraction : Fraction
+zeroFraction = record { num = 0; den = 1 }
+
 -- a / b as a reduced fraction, for b above 0; zero is 0/1
 unfoldable pub reduced : ℕ → ℕ → Fraction
 reduced a b = record { num = a / gcd a b; den = b / gcd a b }

@@ -8,7 +8,7 @@ use Rattle.rules.specs.Plan.{Plan, columns, level, entry, everyRun, everyColumn
 use Rattle.rules.specs.Refusals.{ofPlan, firstBadLevel, firstBadEntry}
 use Rattle.words.specs.Words.{score, wordOf}
 use Rattle.projections.specs.Projections.{valueOf, relativeOf}
-use Rattle.projections.proofs.Printed.{listed, L18}
+use Rattle.projections.proofs.Printed.{listed, graded, L18}
 use Rattle.frequencies.specs.Frequencies.{Line, rooms, tableOf, absoluteTable, relativeTable, tableAnswer, tableRooms}
 
 -- the table for size f, absolute or relative, in rooms of n places that hold 7
@@ -49,6 +49,11 @@ figures =
     -- entries past the last line stay as they were
     ∷ is (absolute listed 1 3) (0 ∷ 2 ∷ 0 ∷ 1 ∷ 7 ∷ 1 ∷ 9 ∷ 7 ∷ 1 ∷ 1 ∷ 7 ∷ [])
     ∷ is (relative listed 2 1) (0 ∷ 1 ∷ 8 ∷ 9 ∷ 1 ∷ [])
+    -- a column of one level: the sets that hold it have the value 0
+    ∷ is (relative graded 1 3) (0 ∷ 2 ∷ 0 ∷ 1 ∷ 7 ∷ 1 ∷ 9 ∷ 7 ∷ 2 ∷ 1 ∷ 7 ∷ [])
+    ∷ is (relative graded 2 2) (0 ∷ 2 ∷ 0 ∷ 8 ∷ 1 ∷ 9 ∷ 2 ∷ 1 ∷ [])
+    ∷ is (absolute graded 2 2) (0 ∷ 2 ∷ 0 ∷ 8 ∷ 1 ∷ 9 ∷ 2 ∷ 1 ∷ [])
+    ∷ is (relative graded 3 1) (0 ∷ 1 ∷ 0 ∷ 1 ∷ 1 ∷ [])
     -- size 3 of two columns, and size 0
     ∷ is (absolute listed 3 1) (6 ∷ 0 ∷ replicate 3 7)
     ∷ is (relative listed 0 1) (6 ∷ 0 ∷ replicate 3 7)

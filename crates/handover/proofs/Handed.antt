@@ -59,7 +59,7 @@ module _ {h : Held} (H : IsHeld h) (some : 0 < h .runs) where
       let p = planIn h in
       let rs = standingIn h in
       let R = standing-runs in
-      let G = made-good p rs R (sized H .level-low) (sized H .some-stand some) in
+      let G = made-good p rs R (sized H .some-stand some) in
       record {
         written = λ a b k l. rw (rooms-enough H a b (λ z. omega arith) k l);
         formed = text-formed p rs R;

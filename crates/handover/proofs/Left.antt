@@ -10,6 +10,7 @@ use lib.Dec.{eqb}
 use lib.ListN.{set}
 use Rattle.exact.specs.Lists.{keep, holds}
 use Rattle.exact.proofs.Tests.{not-true, clash}
+use Rattle.exact.proofs.Lists.{keep-all, keep-keep}
 use Rattle.rules.specs.Refusals.{refuses}
 use Rattle.rules.proofs.Ranges.{unless-accepted}
 use Rattle.advice.specs.Advice.{without}
@@ -49,24 +50,6 @@ strike-left {h} H f z =
     ∙ struck-standing (marksIn h) f
 
 -- ---- all of them
-
-keep-all : (xs : List ℕ) → keep (λ f. true) xs ≡ xs
-keep-all [] = refl
-keep-all (x ∷ xs) = ap (λ l. x ∷ l) (keep-all xs)
-
-keep-keep : (p q : ℕ → Bool) (xs : List ℕ) → keep p (keep q xs) ≡ keep (λ x. q x && p x) xs
-keep-keep p q [] = refl
-keep-keep p q (x ∷ xs) = go (q x) (keep-keep p q xs)
-  where
-    under : (b : Bool) → keep p (keep q xs) ≡ keep (λ y. q y && p y) xs →
-        cond b (x ∷ keep p (keep q xs)) (keep p (keep q xs)) ≡ cond b (x ∷ keep (λ y. q y && p y) xs) (keep (λ y. q y && p y) xs)
-    under true e = ap (λ l. x ∷ l) e
-    under false e = e
-
-    go : (b : Bool) → keep p (keep q xs) ≡ keep (λ y. q y && p y) xs →
-        keep p (cond b (x ∷ keep q xs) (keep q xs)) ≡ cond (b && p x) (x ∷ keep (λ y. q y && p y) xs) (keep (λ y. q y && p y) xs)
-    go true e = under (p x) e
-    go false e = e
 
 neither-is : (a b : Bool) → (not a && not b) ≡ not (a || b)
 neither-is true b = refl

@@ -1,7 +1,7 @@
 -- The plan that some runs of a plan make, numbered anew: it is good, and its words are those of these runs.
 use mathlib.Core.Path.{_≡_, sym, _∙_, ap}
 use mathlib.Core.List.{List, [], map}
-use Prim.Native.Nat.{ℕ, _*_, _≤_, _<_}
+use Prim.Native.Nat.{ℕ, _*_, _<_}
 use native.Mathlib.Nat.{zero-add}
 use native.Mathlib.Omega.{arith}
 use lib.ListN.{length, getD, length-map}
@@ -10,7 +10,7 @@ use Rattle.exact.proofs.Lists.{getD-map}
 use Rattle.exact.proofs.Members.{getD-mem}
 use Rattle.exact.proofs.Numbers.{length-map-from, map-from-at, map-places, mem-from}
 use Rattle.exact.proofs.Sums.{sum-cong, sum-map}
-use Rattle.rules.specs.Plan.{Plan, columns, runs, level, entry, everyColumn, everyRun, lowestLevel}
+use Rattle.rules.specs.Plan.{Plan, columns, runs, level, entry, everyColumn, everyRun}
 use Rattle.sets.specs.Sets.{choose}
 use Rattle.plan.specs.Good.{Good}
 use Rattle.words.specs.Words.{wordOf, word}
@@ -56,16 +56,16 @@ module _ (p : Plan) (rs : List ℕ) (R : Runs p rs) where
       ∙ ap (λ xs. getD xs i 0) (sym own ∙ ap (λ rows. getD rows k []) made-rows ∙ getD-map (row p) rs k 0 [] h)
       ∙ at p (getD rs k 0) l
 
-  -- ---- so that it is good, its levels being those of an accepted plan
+  -- ---- so that it is good
 
-  pub made-good : ((i : ℕ) → i < columns p → lowestLevel ≤ level p i) → 0 < length rs → Good made
-  made-good low some =
+  pub made-good : 0 < length rs → Good made
+  made-good some =
       let n = made-runs in
       let S = R .sound in
       record {
         columns-low = R .some-columns;
         columns-high = S .columns-high;
-        level-low = low;
+        level-low = S .level-low;
         level-high = S .level-high;
         small = S .small;
         size = rw n made-size;

@@ -1,12 +1,12 @@
 -- What a function may use of a held plan: its sizes, and that its standing runs are sound.
-use mathlib.Core.Path.{_≡_, refl, sym, subst}
+use mathlib.Core.Path.{_≡_, refl}
 use mathlib.Core.List.{List, [], _∷_, List·Memᴰ, List·Memᴰ·not-nil}
 use Prim.Native.Nat.{ℕ, _*_, _≤_, _<_}
 use native.Mathlib.Omega.{arith}
 use lib.ListN.{length, length-append, length-replicate}
 use Rattle.exact.specs.Lists.{filledTo}
 use Rattle.exact.proofs.Numbers.{length-from, mul-below}
-use Rattle.rules.specs.Plan.{Plan, plan, columns, runs, level, everyRun, lowestLevel}
+use Rattle.rules.specs.Plan.{Plan, plan, columns, runs, everyRun}
 use Rattle.plan.specs.Good.{Sound}
 use Rattle.plan.proofs.Sound.{run-mem, good-sound}
 use Rattle.words.proofs.OfPlan.{sound-run}
@@ -53,7 +53,6 @@ pub record Sized (h : Held) : Type 0 where
   pub marks-held : length (marksIn h) ≡ h .runs
   pub sound : Sound (planIn h) (standingIn h)
   pub each : (f : ℕ) → f < h .runs → Sound (planIn h) (f ∷ [])
-  pub level-low : (i : ℕ) → i < columns (planIn h) → lowestLevel ≤ level (planIn h) i
   pub columns-low : 0 < h .runs → 0 < h .columns
   pub some-stand : 0 < h .runs → 0 < length (standingIn h)
 
@@ -77,7 +76,6 @@ sized none-held = record {
   entries-room = length-replicate {A = ℕ} 6144 0;
   marks-held = refl;
   each = λ f h. absurd (omega arith);
-  level-low = λ i h. absurd (omega arith);
   columns-low = λ h. absurd (omega arith);
   some-stand = λ h. absurd (omega arith);
 }
@@ -92,8 +90,6 @@ sized (held p marks G size left) = record {
   levels-room = filled 24 0 (p .levels) (G .columns-high);
   entries-room = filled 6144 0 (p .table) (omega (arith, G .size, mul-below (runs p) (columns p) 256 24 (G .runs-high) (G .columns-high)));
   marks-held = rw (marks-in p marks size) size;
-  level-low =
-      subst (λ q. (i : ℕ) → i < columns q → lowestLevel ≤ level q i) (sym (plan-in p G marks size)) (G .level-low);
   columns-low = λ h. G .columns-low;
   each = λ f h. rw (plan-in p G marks size) (sound-run p (everyRun p) (good-sound p G) f (run-mem p f h));
   some-stand = λ h. rw (marks-in p marks size) left;

@@ -1,23 +1,17 @@
 -- A loop that walks the marks and writes down the runs that stand.
 use mathlib.Core.Path.{_≡_, refl, _∙_}
 use mathlib.Core.Bool.{Bool, true, false}
-use mathlib.Core.List.{List, [], _∷_, _++_, append-assoc, append-nil}
-use Prim.Native.Nat.{ℕ, suc, _+_, _-_, _≤_, _<_}
+use mathlib.Core.List.{List, [], _∷_, append-nil}
+use Prim.Native.Nat.{ℕ, _+_, _≤_, _<_}
 use native.Mathlib.Omega.{arith}
 use lib.ListN.{length, getD, set, take, replicate, length-append}
-use lib.Seq.{set-at, take-length, length-take-le}
+use lib.Seq.{take-length, length-take-le}
 use Rattle.exact.specs.Lists.{filledTo}
+use Rattle.exact.proofs.Rooms.{filled-next}
 use Rattle.rules.specs.Plan.{mostRuns}
 use Rattle.held.specs.Held.{standing}
 use Rattle.held.specs.Given.{standingOf}
 use Rattle.held.proofs.Standing.{standing-within, one-more}
-
-module _ {A : Type 0} (d : A) where
-  -- one more in a room that holds d in the places left over
-  pub filled-next : (n : ℕ) (xs : List A) (v : A) → length xs < n → set (filledTo n d xs) (length xs) v ≡ filledTo n d (xs ++ v ∷ [])
-  filled-next n xs v h =
-      let e : n - length xs ≡ suc (n - (length xs + 1)) = omega arith in
-      rw (e, length-append xs (v ∷ []), append-assoc) (set-at xs d (replicate (n - (length xs + 1)) d) v (length xs) refl)
 
 -- the first f marks were walked
 pub record Walked (marks : List Bool) (f : ℕ) (runs : List ℕ) (count : ℕ) : Type 0 where
@@ -40,7 +34,7 @@ module _ (marks : List Bool) where
         record {
           are =
               rw (more, W .are, W .many)
-              (filled-next 0 mostRuns (standing (take f marks)) f (omega (arith, W .many)));
+              (filled-next mostRuns 0 (standing (take f marks)) f (omega (arith, W .many)));
           many = rw (more, length-append (standing (take f marks)) (f ∷ [])) (omega (arith, W .many));
         }
 

@@ -40,7 +40,7 @@ long n = plan (2 ∷ []) (replicate n 0)
 
 figures : List Figure
 figures =
-    is (check (wide 1 1)) (2 ∷ 0 ∷ 0 ∷ [])
+    is (check (wide 1 1)) (0 ∷ 0 ∷ 0 ∷ [])
     ∷ is (check (wide 1 17)) (2 ∷ 0 ∷ 0 ∷ [])
     ∷ is (check (wide 1 2)) (0 ∷ 0 ∷ 0 ∷ [])
     ∷ is (check (wide 1 16)) (0 ∷ 0 ∷ 0 ∷ [])
@@ -49,7 +49,9 @@ figures =
     ∷ is (check (long 256)) (0 ∷ 0 ∷ 0 ∷ [])
     ∷ is (check (long 257)) (4 ∷ 0 ∷ 0 ∷ [])
     ∷ is (place 5 3 (0 ∷ 3 ∷ 4 ∷ [])) (0 ∷ 0 ∷ 0 ∷ 5 ∷ [])
-    -- not of the paper: the first bad entry is that of run 1, column 2; 1 ahead of 4, 2 ahead of 3, and the first bad level
+    -- not of the paper: level 0, and 24 columns of one level; the first bad entry is that of run 1, column 2; 1 ahead of 4, 2 ahead of 3, and the first bad level
+    ∷ is (check (wide 1 0)) (2 ∷ 0 ∷ 0 ∷ [])
+    ∷ is (check (wide 24 1)) (0 ∷ 0 ∷ 0 ∷ [])
     ∷ is (check (plan (2 ∷ 3 ∷ 4 ∷ []) (1 ∷ 2 ∷ 3 ∷ 1 ∷ 2 ∷ 4 ∷ 2 ∷ 0 ∷ 0 ∷ []))) (5 ∷ 1 ∷ 2 ∷ [])
     ∷ is (check (plan [] [])) (1 ∷ 0 ∷ 0 ∷ [])
     ∷ is (check (wide 25 2)) (1 ∷ 0 ∷ 0 ∷ [])

@@ -1,4 +1,5 @@
 pub mod Loops
 pub mod Checks
 pub mod Sound
+pub mod Several
 pub mod Figures

@@ -19,7 +19,7 @@ pub record Good (p : Plan) : Type 0 where
   pub runs-high : runs p ≤ mostRuns
   pub below : (f i : ℕ) → f < runs p → i < columns p → entry p f i < level p i
 
--- some runs of a plan, in any order: each lies in the table and has its entries below their levels. Levels may be 1
+-- some runs of a plan, in any order: each lies in the table and has its entries below their levels
 pub record Sound (p : Plan) (rs : List ℕ) : Type 0 where
   pub columns-high : columns p ≤ mostColumns
   pub level-low : (i : ℕ) → i < columns p → 1 ≤ level p i

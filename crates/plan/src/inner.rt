@@ -1,10 +1,11 @@
-// What the crates above call on a good plan.
+// What the crates above call on a good plan: its runs, and its columns of several levels.
 ghost use mathlib.Core.Path.{_≡_};
 ghost use mathlib.Core.List.{_++_};
 ghost use Prim.Native.Nat.{_-_, _≤_};
-ghost use lib.ListN.{replicate};
+ghost use lib.ListN.{length, replicate};
 ghost use Rattle.exact.specs.Lists.{from};
-ghost use Rattle.rules.specs.Plan.{mostRuns};
+ghost use Rattle.rules.specs.Plan.{mostColumns, mostRuns};
+ghost use Rattle.plan.specs.Several.{severalOf};
 
 // The numbers of the n runs, and zero in each place left over.
 pub fn every_run(n: usize) -> [usize; 256]
@@ -16,4 +17,26 @@ pub fn every_run(n: usize) -> [usize; 256]
         runs[f] = f;
     }
     runs
+}
+
+// The first `many` places hold the columns of more than one level, rising; the others zero.
+pub struct Several {
+    pub columns: [usize; 24],
+    pub many: usize,
+}
+
+// The columns of more than one level.
+pub fn several_levels(levels: &[u8]) -> Several
+    requires { ⌜ length (now levels) ≤ mostColumns ⌝ }
+    ensures { λ r. ⌜ r ≡ severalOf (now (levels .entry)) ⌝ }
+{
+    let mut columns = [0; 24];
+    let mut many = 0;
+    for i in 0..levels.len() {
+        if 1 < levels[i] {
+            columns[many] = i;
+            many += 1;
+        }
+    }
+    Several { columns, many }
 }

@@ -53,5 +53,4 @@ pub good-tabled : (p : Plan) → Good p → Tabled p (everyRun p)
 good-tabled p G = record {
   sound = good-sound p G;
   some = omega (arith, G .runs-low, length-from 0 (runs p));
-  level-low = G .level-low;
 }

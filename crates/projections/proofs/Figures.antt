@@ -7,7 +7,7 @@ use Rattle.rules.specs.Plan.{Plan, everyRun}
 use Rattle.rules.specs.Refusals.{ofPlan, firstBadLevel, firstBadEntry}
 use Rattle.words.specs.Words.{score, wordOf}
 use Rattle.projections.specs.Projections.{setWordAnswer}
-use Rattle.projections.proofs.Printed.{listed, L18}
+use Rattle.projections.proofs.Printed.{listed, graded, L18}
 
 -- W(I) of the f columns I of a plan: the refusal's number and the word
 record Figure : Type 0 where
@@ -34,6 +34,9 @@ figures =
     ∷ is listed 2 (1 ∷ 0 ∷ []) (8 ∷ 0 ∷ [])
     ∷ is listed 2 (1 ∷ []) (8 ∷ 0 ∷ [])
     ∷ is listed 1 (2 ∷ []) (8 ∷ 0 ∷ [])
+    -- with column 1, of one level, and without
+    ∷ is graded 2 (0 ∷ 1 ∷ []) (0 ∷ 0 ∷ [])
+    ∷ is graded 2 (0 ∷ 2 ∷ []) (0 ∷ 8 ∷ [])
     ∷ []
 
 as-the-paper-says : map ask figures ≡ map (λ x. x .answer) figures

@@ -40,16 +40,21 @@ module _ {A : Type 0} where
         factor x (product (map s I)) (product (map s K)) (h x (List·Memᴰ·head refl)) (product-part p (λ y m. h y (List·Memᴰ·tail m)))
     product-part {K = x ∷ K} (keep p) h = mul-le-mul (le-refl (s x)) (product-part p (λ y m. h y (List·Memᴰ·tail m)))
 
--- every set of columns of a plan is a projection
-pub part-projection : (p : Plan) → ((i : ℕ) → i < columns p → 1 ≤ level p i) → product (p .levels) ≤ highestProduct → (I : List ℕ) →
-    Part I (from 0 (columns p)) → Projection p I
-part-projection p low small I part =
-    let below : (i : ℕ) → List·Memᴰ i (from 0 (columns p)) → i < columns p = λ i m. omega (arith, mem-from 0 (columns p) m) in
-    record {
-      inside = λ i m. below i (part-mem part i m);
-      small = le-trans (product-part (level p) part (λ i m. low i (below i m)))
-          (subst (λ l. product l ≤ highestProduct) (sym (map-places (p .levels) 0)) small);
-    }
+module _ (p : Plan) (low : (i : ℕ) → i < columns p → 1 ≤ level p i) where
+  -- some columns of a projection are one
+  pub within-projection : {I K : List ℕ} → Part I K → Projection p K → Projection p I
+  within-projection part P = record {
+    inside = λ i m. P .inside i (part-mem part i m);
+    small = le-trans (product-part (level p) part (λ i m. low i (P .inside i m))) (P .small);
+  }
+
+  -- every set of columns of a plan is a projection
+  pub part-projection : product (p .levels) ≤ highestProduct → (I : List ℕ) → Part I (from 0 (columns p)) → Projection p I
+  part-projection small I part =
+      within-projection part (record {
+        inside = λ i m. omega (arith, mem-from 0 (columns p) m);
+        small = subst (λ l. product l ≤ highestProduct) (sym (map-places (p .levels) 0)) small;
+      })
 
 -- before the first turn
 pub product-none : (p : Plan) (I : List ℕ) (a b : ℕ) → pos 1 ≡ productOf p (drop (length I) I) a b

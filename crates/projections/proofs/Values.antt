@@ -1,20 +1,25 @@
 -- The smallest level of a set, from the last column down; and how large a value's denominator is.
 use mathlib.Core.Path.{_≡_, refl, sym, _∙_, ap, subst}
-use mathlib.Core.Bool.{Bool, true, false}
+use mathlib.Core.Bool.{Bool, true, false, cond}
 use mathlib.Core.List.{List, [], _∷_, map, List·Memᴰ, List·Memᴰ·head, List·Memᴰ·tail, Memᴰ·of-map}
+use mathlib.Core.List.{List·Memᴰ·not-nil, List·Memᴰ·eq-of-singleton}
 use Prim.Native.Nat.{ℕ, _*_, _-_, _≤_, _<_, min}
-use native.Mathlib.Nat.{min-eq-left, min-eq-right, mul-pos}
+use native.Mathlib.Nat.{min-eq-left, min-eq-right, min-le-left, min-le-right, mul-pos, mul-one}
 use native.Mathlib.Omega.{arith}
 use native.Mathlib.Decide.{decLe}
+use lib.IntN.{natAbs}
 use lib.ListN.{length, getD, drop, length-map}
 use lib.Seq.{drop-cons, drop-length}
-use Rattle.exact.specs.Lists.{smallest}
-use Rattle.exact.specs.Fractions.{reduced, ShortDenominator}
+use Rattle.exact.specs.Lists.{smallest, holds}
+use Rattle.exact.specs.Fractions.{zeroFraction, reduced, ShortDenominator}
 use Rattle.exact.proofs.Lists.{drop-back}
 use Rattle.exact.proofs.Numbers.{mul-below}
-use Rattle.exact.proofs.Reduced.{reduced-den-≤, reduced-den-pos}
-use Rattle.rules.specs.Plan.{Plan, level, lowestLevel, highestLevel, mostRuns}
-use Rattle.projections.specs.Given.{Projection, Tabled}
+use Rattle.exact.proofs.Tests.{is-true, is-false}
+use Rattle.exact.proofs.Members.{mem-holds, holds-mem}
+use Rattle.exact.proofs.Reduced.{reduced-num-≤, reduced-den-≤, reduced-den-pos}
+use Rattle.rules.specs.Plan.{Plan, level, entry, lowestLevel, highestLevel, mostRuns}
+use Rattle.words.specs.Words.{wordOf}
+use Rattle.projections.specs.Given.{Projection, Tabled, overPairs}
 use Rattle.projections.specs.Projections.{valueOf, relativeOf, valueIn}
 
 -- ---- the smallest
@@ -38,30 +43,80 @@ smallest-mem (x ∷ y ∷ ys) h = go (decLe x (smallest (y ∷ ys))) (smallest-m
     go (no l) m =
         List·Memᴰ·tail (subst (λ s. List·Memᴰ s (y ∷ ys)) (sym (min-eq-right (let q : smallest (y ∷ ys) ≤ x = omega arith in q))) m)
 
+smallest-≤ : (xs : List ℕ) (x : ℕ) → List·Memᴰ x xs → smallest xs ≤ x
+smallest-≤ [] x m = absurd (List·Memᴰ·not-nil m)
+smallest-≤ (y ∷ []) x m = omega (arith, List·Memᴰ·eq-of-singleton m)
+smallest-≤ (y ∷ z ∷ zs) x (List·Memᴰ·head e) = omega (arith, e, min-le-left y (smallest (z ∷ zs)))
+smallest-≤ (y ∷ z ∷ zs) x (List·Memᴰ·tail m) = omega (arith, smallest-≤ (z ∷ zs) x m, min-le-right y (smallest (z ∷ zs)))
+
+-- ---- a value by the smallest level
+
+module _ {R C : Type 0} (level : C → ℕ) (entry : R → C → ℕ) (rs : List R) where
+  pub relative-one : (I : List C) → List·Memᴰ 1 (map level I) → relativeOf level entry rs I ≡ zeroFraction
+  unfolding relativeOf
+  relative-one I m = rw (mem-holds 1 (map level I) m)
+
+module _ (p : Plan) (rs I : List ℕ) where
+  pub value-plain : overPairs p rs I 1 ≡ valueIn false p rs I
+  unfolding valueOf
+  value-plain = rw (mul-one (length rs * length rs))
+
+  pub value-one : 1 ≤ length I → smallest (map (level p) I) ≡ 1 → zeroFraction ≡ valueIn true p rs I
+  value-one some e =
+      sym (relative-one (level p) (entry p) rs I
+      (subst (λ s. List·Memᴰ s (map (level p) I)) e (smallest-mem (map (level p) I) (omega (arith, length-map I (level p))))))
+
+  pub value-several : 2 ≤ smallest (map (level p) I) → overPairs p rs I (smallest (map (level p) I) - 1) ≡ valueIn true p rs I
+  unfolding relativeOf
+  value-several l = rw (is-false (holds 1 (map (level p) I)) (λ t. omega (arith, smallest-≤ (map (level p) I) 1 (holds-mem 1 (map (level p) I) (is-true _ t)))))
+
+  -- no numerator is above the word
+  pub value-num : (relative : Bool) → valueIn relative p rs I .num ≤ natAbs (wordOf (level p) (entry p) rs I)
+  unfolding valueOf relativeOf
+  value-num false = reduced-num-≤ _ _
+  value-num true = go (holds 1 (map (level p) I))
+    where
+      w : ℕ
+      w = natAbs (wordOf (level p) (entry p) rs I)
+
+      d : ℕ
+      d = length rs * length rs * (smallest (map (level p) I) - 1)
+
+      go : (b : Bool) → cond b zeroFraction (reduced w d) .num ≤ w
+      go true = omega arith
+      go false = reduced-num-≤ w d
+
 -- ---- the denominators
 
 module _ (p : Plan) (rs I : List ℕ) (G : Tabled p rs) (P : Projection p I) (some : 1 ≤ length I) where
   pub level-between : (lowestLevel ≤ smallest (map (level p) I)) × (smallest (map (level p) I) ≤ highestLevel)
   level-between =
       let (i, m, e) = Memᴰ·of-map (level p) I (smallest-mem (map (level p) I) (omega (arith, length-map I (level p)))) in
-      subst (λ s. (lowestLevel ≤ s) × (s ≤ highestLevel)) e (G .level-low i (P .inside i m), G .sound .level-high i (P .inside i m))
+      subst (λ s. (lowestLevel ≤ s) × (s ≤ highestLevel)) e (G .sound .level-low i (P .inside i m), G .sound .level-high i (P .inside i m))
 
-  pub pairs-between : (1 ≤ length rs * length rs) × (length rs * length rs ≤ 65_536)
-  pairs-between = (mul-pos (G .some) (G .some), mul-below (length rs) (length rs) mostRuns mostRuns (G .sound .few) (G .sound .few))
+pub few-pairs : (p : Plan) (rs : List ℕ) → Tabled p rs → length rs * length rs ≤ 65_536
+few-pairs p rs G = mul-below (length rs) (length rs) mostRuns mostRuns (G .sound .few) (G .sound .few)
 
-  pub relative-between :
-      let d = length rs * length rs * (smallest (map (level p) I) - 1) in
-      (1 ≤ d) × (d ≤ 983_040)
-  relative-between =
-      let (low, high) = level-between in
-      let (some-pairs, few-pairs) = pairs-between in
-      let s = smallest (map (level p) I) in
-      (mul-pos some-pairs (omega arith), mul-below (length rs * length rs) (s - 1) 65_536 15 few-pairs (omega arith))
+module _ (p : Plan) (rs I : List ℕ) (G : Tabled p rs) (d : ℕ) (low : 1 ≤ d) (high : d < highestLevel) where
+  pub over-between : (1 ≤ length rs * length rs * d) × (length rs * length rs * d ≤ 983_040)
+  over-between = (mul-pos (mul-pos (G .some) (G .some)) low, mul-below (length rs * length rs) d 65_536 15 (few-pairs p rs G) (omega arith))
 
-  reduced-short : (a b : ℕ) → (1 ≤ b) × (b ≤ 983_040) → ShortDenominator (reduced a b)
-  reduced-short a b (l, h) = record { above-zero = reduced-den-pos a b l; short = omega (arith, reduced-den-≤ a b) }
+  over-short : ShortDenominator (overPairs p rs I d)
+  over-short =
+      let a = natAbs (wordOf (level p) (entry p) rs I) in
+      let b = length rs * length rs * d in
+      record { above-zero = reduced-den-pos a b (over-between .0); short = omega (arith, reduced-den-≤ a b, over-between) }
 
+module _ (p : Plan) (rs I : List ℕ) (G : Tabled p rs) (P : Projection p I) (some : 1 ≤ length I) where
   pub value-short : (relative : Bool) → ShortDenominator (valueIn relative p rs I)
-  unfolding valueOf relativeOf
-  value-short true = reduced-short _ _ relative-between
-  value-short false = reduced-short _ _ (pairs-between .0, omega (arith, pairs-between))
+  value-short false = subst ShortDenominator (value-plain p rs I) (over-short p rs I G 1 (omega arith) (omega arith))
+  value-short true = go (decLe 2 s)
+    where
+      s : ℕ
+      s = smallest (map (level p) I)
+
+      go : Dec (2 ≤ s) → ShortDenominator (valueIn true p rs I)
+      go (yes l) = subst ShortDenominator (value-several p rs I l) (over-short p rs I G (s - 1) (omega arith) (omega (arith, level-between p rs I G P some)))
+      go (no l) =
+          subst ShortDenominator (value-one p rs I some (omega (arith, level-between p rs I G P some)))
+          (record { above-zero = omega arith; short = omega arith })

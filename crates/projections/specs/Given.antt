@@ -1,23 +1,24 @@
 -- What the routines over some runs of a plan are given.
 use mathlib.Core.List.{List, List·Memᴰ, map}
-use Prim.Native.Nat.{ℕ, _+_, _≤_, _<_}
+use Prim.Native.Nat.{ℕ, _+_, _*_, _≤_, _<_}
 use lib.ListN.{length, getD}
-use lib.IntN.{ℤ}
+use lib.IntN.{ℤ, natAbs}
 use Rattle.exact.specs.Lists.{prod, product}
-use Rattle.rules.specs.Plan.{Plan, columns, level, entry, lowestLevel, highestProduct}
+use Rattle.exact.specs.Fractions.{reduced}
+use Rattle.exact.specs.declared.fractions.Fraction.{Fraction}
+use Rattle.rules.specs.Plan.{Plan, columns, level, entry, highestProduct}
 use Rattle.plan.specs.Good.{Sound}
-use Rattle.words.specs.Words.{score, scoreAt}
+use Rattle.words.specs.Words.{score, scoreAt, wordOf}
 
 -- columns of a plan whose levels' product is within its limit, as that of every set of columns is
 pub record Projection (p : Plan) (I : List ℕ) : Type 0 where
   pub inside : (i : ℕ) → List·Memᴰ i I → i < columns p
   pub small : product (map (level p) I) ≤ highestProduct
 
--- runs of which a table is made: there is one, and no level is 1, so that n²(s - 1) is above zero
+-- runs of which a table is made: there is one, so that n² is above zero
 pub record Tabled (p : Plan) (rs : List ℕ) : Type 0 where
   pub sound : Sound p rs
   pub some : 1 ≤ length rs
-  pub level-low : (i : ℕ) → i < columns p → lowestLevel ≤ level p i
 
 -- at least one column, each of the m from 0 on
 pub record SomeColumns (m : ℕ) (I : List ℕ) : Type 0 where
@@ -43,6 +44,10 @@ productOf p I a b = prod I (scoreFrom p a b)
 -- the product of the scores in I for the runs f and g
 abbrev pub pairOf : Plan → List ℕ → ℕ → ℕ → ℤ
 pairOf p I f g = prod I (scoreAt (level p) (entry p) f g)
+
+-- W(I) / (n² · d), reduced
+abbrev pub overPairs : Plan → List ℕ → List ℕ → ℕ → Fraction
+overPairs p rs I d = reduced (natAbs (wordOf (level p) (entry p) rs I)) (length rs * length rs * d)
 
 -- a projection size
 pub record SizeOf (m f : ℕ) : Type 0 where

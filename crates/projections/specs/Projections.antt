@@ -4,8 +4,8 @@ use mathlib.Core.List.{List, [], _∷_, map}
 use Prim.Native.Nat.{ℕ, _*_, _-_}
 use lib.IntN.{pos, natAbs}
 use lib.ListN.{length}
-use Rattle.exact.specs.Lists.{smallest}
-use Rattle.exact.specs.Fractions.{reduced}
+use Rattle.exact.specs.Lists.{smallest, holds}
+use Rattle.exact.specs.Fractions.{zeroFraction, reduced}
 use Rattle.exact.specs.declared.fractions.Fraction.{Fraction}
 use Rattle.rules.specs.Plan.{Plan, columns, level, entry}
 use Rattle.rules.specs.Refusals.{Check, refusal, unless, badSize, badSet}
@@ -19,9 +19,11 @@ module _ {R C : Type 0} (level : C → ℕ) (entry : R → C → ℕ) (rs : List
   unfoldable pub valueOf : List C → Fraction
   valueOf I = reduced (natAbs (wordOf level entry rs I)) (length rs * length rs)
 
-  -- W(I) / (n²(s - 1)), reduced, s being the smallest level in I
+  -- W(I) / (n²(s - 1)), reduced, s being the smallest level in I; 0/1, with no division, where I holds a column of one level
   unfoldable pub relativeOf : List C → Fraction
-  relativeOf I = reduced (natAbs (wordOf level entry rs I)) (length rs * length rs * (smallest (map level I) - 1))
+  relativeOf I =
+      let s = smallest (map level I) in
+      cond (holds 1 (map level I)) zeroFraction (reduced (natAbs (wordOf level entry rs I)) (length rs * length rs * (s - 1)))
 
 -- the value of a set in the table that is asked for, relative or not
 abbrev pub valueIn : Bool → Plan → List ℕ → List ℕ → Fraction

@@ -8,11 +8,11 @@ ghost use mathlib.Core.List.{[], _∷_, map};
 ghost use Prim.Native.Nat.{_+_, _≤_, _<_};
 ghost use lib.ListN.{length, getD, drop};
 ghost use Rattle.exact.specs.Lists.{sum, smallest};
-ghost use Rattle.rules.specs.Plan.{plan, columns, level, entry, everyRun};
+ghost use Rattle.rules.specs.Plan.{plan, columns, level, entry, everyRun, highestLevel};
 ghost use Rattle.rules.specs.Refusals.{refusal, ofPlan, badSize};
 ghost use Rattle.plan.specs.Good.{Good, Sound};
 ghost use Rattle.words.specs.Words.{wordOf};
-ghost use Rattle.projections.specs.Given.{Projection, Starts, Tabled, SomeColumns, productOf, pairOf};
+ghost use Rattle.projections.specs.Given.{Projection, Starts, Tabled, SomeColumns, productOf, pairOf, overPairs};
 ghost use Rattle.projections.specs.Projections.{valueIn};
 
 // The product of the scores in the columns, for the runs that start at places a and b of the table.
@@ -105,7 +105,26 @@ fn wide(level: u8) -> u64
     level as u64
 }
 
-// The value of a set in the table that is asked for. 256 runs and level 16 give a denominator of at most 983,040.
+// W(I) / (n² · divisor). 256 runs and a divisor of 15 give a denominator of at most 983,040.
+fn word_over(
+    levels: &[u8],
+    table: &[u8],
+    runs: &[usize],
+    columns: &[usize],
+    divisor: u64,
+) -> Fraction
+    requires { ⌜ Tabled (plan (now levels) (now table)) (now runs)
+        × (Projection (plan (now levels) (now table)) (now columns) × ((1 ≤ divisor) × (divisor < highestLevel))) ⌝ }
+    ensures { λ r. ⌜ (let p = plan (now (levels .entry)) (now (table .entry)) in
+        r ≡ overPairs p (now (runs .entry)) (now (columns .entry)) divisor) ⌝ }
+{
+    let word = signed::to_u64(set_word(levels, table, runs, columns));
+    let n = runs.len() as u64;
+    reduced(word, n * n * divisor)
+}
+
+// The value of a set in the table that is asked for. The relative value of a set with a column of one level is zero before any
+// word is worked out, so that a walk over such sets is quick.
 pub fn value(
     levels: &[u8],
     table: &[u8],
@@ -117,14 +136,14 @@ pub fn value(
         × (Projection (plan (now levels) (now table)) (now columns) × (1 ≤ length (now columns))) ⌝ }
     ensures { λ r. ⌜ r ≡ valueIn relative (plan (now (levels .entry)) (now (table .entry))) (now (runs .entry)) (now (columns .entry)) ⌝ }
 {
-    let word = signed::to_u64(set_word(levels, table, runs, columns));
-    let n = runs.len() as u64;
-    let pairs = n * n;
-    if relative {
-        let lowest = wide(smallest_level(levels, columns));
-        return reduced(word, pairs * (lowest - 1));
+    if !relative {
+        return word_over(levels, table, runs, columns, 1);
     }
-    reduced(word, pairs)
+    let lowest = wide(smallest_level(levels, columns));
+    if lowest == 1 {
+        return Fraction { num: 0, den: 1 };
+    }
+    word_over(levels, table, runs, columns, lowest - 1)
 }
 
 // Refusals 1 to 5, of the plan, and 6, of the projection size.

@@ -33,7 +33,7 @@ abbrev figure : List ℕ → List ℕ → Figure
 figure text listed = record { text = text; listed = listed }
 
 -- that plan; levels 3, 2 with all six runs, which have no resolution; with one run, which has no advice; the half of 2, 2, 2;
--- and a level of 1, an entry that is not below its level, a leading zero, no text
+-- one column of two with one level, and both; and a level of 0, an entry that is not below its level, a leading zero, no text
 abbrev figures : List Figure
 figures =
     figure example exampleListing
@@ -44,7 +44,11 @@ figures =
     ∷ figure (lines ("2,2,2" ∷ "0,0,0" ∷ "0,1,1" ∷ "1,0,1" ∷ "1,1,0" ∷ []))
     (lines
     ("plan 4 3" ∷ "word 1 0 1" ∷ "word 2 0 1" ∷ "word 3 1 1" ∷ "strength 2" ∷ "resolution 3" ∷ "ratio 1 1" ∷ "gr 3000" ∷ "lose 0" ∷ []))
-    ∷ figure (lines ("2,1" ∷ "0,0" ∷ [])) (lines ("refused 2 1 0" ∷ []))
+    ∷ figure (lines ("2,1" ∷ "0,0" ∷ []))
+    (lines ("plan 1 2" ∷ "word 1 1 1" ∷ "word 2 0 1" ∷ "strength 0" ∷ "resolution 1" ∷ "ratio 1 1" ∷ "gr 1000" ∷ "lose none" ∷ []))
+    ∷ figure (lines ("1,1" ∷ "0,0" ∷ "0,0" ∷ []))
+    (lines ("plan 2 2" ∷ "word 1 0 1" ∷ "word 2 0 1" ∷ "strength 2" ∷ "resolution none" ∷ "lose 0" ∷ []))
+    ∷ figure (lines ("2,0" ∷ "0,0" ∷ [])) (lines ("refused 2 1 0" ∷ []))
     ∷ figure (lines ("2,3" ∷ "0,0" ∷ "1,3" ∷ [])) (lines ("refused 5 1 1" ∷ []))
     ∷ figure (lines ("2,3" ∷ "0,0" ∷ "0,01" ∷ [])) (lines ("refused 14 3 0" ∷ []))
     ∷ figure [] (lines ("refused 14 1 0" ∷ []))

@@ -6,6 +6,7 @@ use native.Mathlib.Decide.{decLe}
 use native.Mathlib.Omega.{arith}
 use borrow.Author.Tests.{lt-ltb, le-ltb}
 use lib.ListN.{length}
+use Rattle.exact.specs.Fractions.{zeroFraction}
 use Rattle.exact.specs.declared.fractions.Fraction.{Fraction}
 use Rattle.exact.proofs.Numbers.{length-from}
 use Rattle.rules.specs.declared.Refusal.{Refusal}
@@ -14,7 +15,7 @@ use Rattle.rules.specs.Refusals.{refusal, unless, accepted, plain}
 use Rattle.sets.specs.Sets.{choose}
 use Rattle.sets.proofs.Pascal.{many-sets, binom-above}
 use Rattle.projections.specs.Projections.{relativeOf}
-use Rattle.resolution.specs.Resolution.{greatest, zeroFraction, largestRatio, resolutionIn, ratioIn, ratioChecksIn, thousandthsOf, generalizedAnswer}
+use Rattle.resolution.specs.Resolution.{greatest, largestRatio, resolutionIn, ratioIn, ratioChecksIn, thousandthsOf, generalizedAnswer}
 use Rattle.resolution.specs.declared.GeneralizedAnswer.{GeneralizedAnswer}
 use Rattle.report.specs.Listing.{ratioCheck, resolutionLines}
 use Rattle.report.specs.Parts.{linesOfRating}

@@ -7,6 +7,7 @@ use Rattle.rules.specs.Plan.{Plan, plan, everyRun}
 use Rattle.rules.specs.Refusals.{ofPlan, firstBadLevel, firstBadEntry}
 use Rattle.words.specs.Words.{score, wordOf, word}
 use Rattle.projections.specs.Projections.{relativeOf}
+use Rattle.projections.proofs.Printed.{listed, graded}
 use Rattle.resolution.specs.Resolution.{greatest, rootOf, resolution, largestRatio, resolutionAnswer, generalizedAnswer}
 use Rattle.resolution.specs.Charts.{columnRatio, figureAnswer}
 use Rattle.resolution.specs.declared.Figure.{Figure}
@@ -50,10 +51,6 @@ full = plan (3 ∷ 2 ∷ []) (0 ∷ 0 ∷ 0 ∷ 1 ∷ 1 ∷ 0 ∷ 1 ∷ 1 ∷ 2 
 abbrev one : Plan
 one = plan (3 ∷ 2 ∷ []) (0 ∷ 0 ∷ [])
 
--- the listing's: levels 2,3, runs 00 01 12
-abbrev listed : Plan
-listed = plan (2 ∷ 3 ∷ []) (0 ∷ 0 ∷ 0 ∷ 1 ∷ 1 ∷ 2 ∷ [])
-
 abbrev figures : List Row
 figures =
     is (generalized half) (0 ∷ 3 ∷ 1 ∷ 1 ∷ 3000 ∷ [])
@@ -68,6 +65,10 @@ figures =
     ∷ is (column listed 2) (8 ∷ 1 ∷ [])
     ∷ is (column full 2) (8 ∷ 1 ∷ [])
     ∷ is (column full 1) (11 ∷ 1 ∷ [])
+    -- a column of one level, the middle one: it changes no figure, and is clear; two such columns have no words
+    ∷ is (generalized graded) (0 ∷ 1 ∷ 1 ∷ 9 ∷ 1666 ∷ [])
+    ∷ is (column graded 1) (0 ∷ 1 ∷ [])
+    ∷ is (generalized (plan (1 ∷ 1 ∷ []) (0 ∷ 0 ∷ []))) (11 ∷ 0 ∷ 0 ∷ 0 ∷ 0 ∷ [])
     ∷ []
 
 ratio-figures : map (λ c. ask (c .question)) figures ≡ map (λ c. c .answer) figures

@@ -6,13 +6,13 @@ use mathlib.Core.List.{List, [], _∷_, _++_, List·Memᴰ, List·Memᴰ·head, 
 use mathlib.Core.List.{List·Memᴰ·append-cases, List·Memᴰ·eq-of-singleton, Memᴰ·append-left, Memᴰ·append-right}
 use Prim.Native.Nat.{_<_}
 use native.Mathlib.Omega.{arith}
-use Rattle.exact.specs.Fractions.{smallerFraction, isBetter}
+use Rattle.exact.specs.Fractions.{zeroFraction, smallerFraction, isBetter}
 use Rattle.exact.specs.declared.fractions.Fraction.{Fraction}
 use Rattle.exact.specs.declared.fractions.Verdict.{Verdict}
 use Rattle.exact.specs.declared.fractions.Verdict.the-variants.{Better, Worse, Equal}
 use Rattle.exact.proofs.Lists.{grown}
 use Rattle.exact.proofs.Lawful.{fractions}
-use Rattle.resolution.specs.Resolution.{greater, greatestFrom, zeroFraction, greatest}
+use Rattle.resolution.specs.Resolution.{greater, greatestFrom, greatest}
 
 from-snoc : (x : Fraction) (ys : List Fraction) (y : Fraction) → greatestFrom x (ys ++ y ∷ []) ≡ greater (greatestFrom x ys) y
 from-snoc x [] y = refl

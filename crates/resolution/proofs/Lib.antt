@@ -5,5 +5,6 @@ pub mod Resolved
 pub mod Walk
 pub mod Rated
 pub mod Answered
+pub mod OneLevel
 pub mod Planned
 pub mod Figures

@@ -5,15 +5,12 @@ use Prim.Native.Nat.{ℕ, _≤_, _<_}
 use native.Mathlib.Decide.{decLe, ℕ-discrete}
 use native.Mathlib.Omega.{arith}
 use borrow.Author.Tests.{lt-ltb, le-ltb}
-use Rattle.exact.proofs.Numbers.{length-from}
-use Rattle.rules.specs.Plan.{Plan, columns, runs, everyRun}
+use Rattle.rules.specs.Plan.{Plan, columns, everyRun}
 use Rattle.rules.specs.Refusals.{Check, refusal, unless, plain, badPlace, planChecks, ofPlan}
 use Rattle.rules.specs.declared.Refusal.{Refusal}
 use Rattle.rules.proofs.Ranges.{unless-refused}
-use Rattle.plan.specs.Good.{Good}
 use Rattle.plan.proofs.Checks.{passed-good, plan-refused, plan-passed}
-use Rattle.plan.proofs.Sound.{good-sound}
-use Rattle.projections.specs.Given.{Tabled}
+use Rattle.projections.proofs.Answers.{good-tabled}
 use Rattle.resolution.specs.Resolution.{ratioChecksIn}
 use Rattle.resolution.specs.Given.{refusing, measures, ratingOf, ofColumn, Small}
 use Rattle.resolution.proofs.Rated.{own, refusing-small, rating-small}
@@ -58,9 +55,6 @@ column-zero p rs = rating-same p rs 0 (ofColumn p 0) (ofPlan p) (go (ℕ-discret
     go (no n) = plan-refused p (badPlace (columns p) 0 ∷ ratioChecksIn p rs) tt refl n ∙ sym (plan-refused p (ratioChecksIn p rs) tt refl n)
 
 -- ---- every run of an accepted plan
-
-pub good-tabled : (p : Plan) → Good p → Tabled p (everyRun p)
-good-tabled p G = record { sound = good-sound p G; some = rw (length-from 0 (runs p)) (G .runs-low); level-low = G .level-low }
 
 -- whatever the plan, the numbers of its rating are small
 pub column-small : (p : Plan) (i : ℕ) → Small (ratingOf p (everyRun p) (ofColumn p i) i)

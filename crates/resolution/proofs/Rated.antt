@@ -14,11 +14,13 @@ use Rattle.rules.specs.Plan.{Plan, columns, level, entry, everyColumn, mostColu
 use Rattle.rules.specs.Refusals.{plain, accepted}
 use Rattle.rules.specs.declared.Refusal.{Refusal}
 use Rattle.sets.specs.Sets.{setsOf}
+use Rattle.sets.proofs.Parts.{part-all}
 use Rattle.words.specs.Words.{word}
 use Rattle.words.specs.Answers.{wordList}
 use Rattle.words.proofs.OfPlan.{word-small, word-none}
 use Rattle.words.proofs.Answered.{word-at}
 use Rattle.projections.specs.Given.{Tabled}
+use Rattle.projections.proofs.Products.{part-projection}
 use Rattle.resolution.specs.Resolution.{resolutionIn, ratioIn, largestRatio}
 use Rattle.resolution.specs.Charts.{columnRatio}
 use Rattle.resolution.specs.Given.{Measured, wordIn, firstAbove, ratiosOf, refusing, measures, ratingOf, Small}
@@ -120,8 +122,10 @@ module _ (p : Plan) (rs : List ℕ) (i : ℕ) (G : Tabled p rs) where
   measures-small : resolutionIn p rs ≤ columns p → ratioIn p rs .num ≤ ratioIn p rs .den → Small (measures p rs i accepted)
   unfolding largestRatio columnRatio
   measures-small h l =
-      let L = ratios-small p rs G (resolutionIn p rs) low (setsOf (columns p) (resolutionIn p rs)) (λ I m. m) in
-      let H = ratios-small p rs G (resolutionIn p rs) low (keep (holds i) (setsOf (columns p) (resolutionIn p rs))) (λ I m. keep-mem (holds i) _ I m) in
+      let K = part-projection p (G .sound .level-low) (G .sound .small) (everyColumn p) (part-all (everyColumn p)) in
+      let small = ratios-small p rs (everyColumn p) G K (resolutionIn p rs) low in
+      let L = small (setsOf (columns p) (resolutionIn p rs)) (λ I m. m) in
+      let H = small (keep (holds i) (setsOf (columns p) (resolutionIn p rs))) (λ I m. keep-mem (holds i) _ I m) in
       record {
         length = omega (arith, G .sound .columns-high);
         at-most-one = l;

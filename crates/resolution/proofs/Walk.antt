@@ -1,46 +1,31 @@
 -- The walk over the sets of some size: one set more is one comparison, and every ratio has a short denominator.
 use mathlib.Core.Path.{_≡_, sym, _∙_, ap, subst}
-use mathlib.Core.Bool.{Bool, true, false, cond}
-use mathlib.Core.List.{List, [], _∷_, _++_, map, map-append, List·Memᴰ, Memᴰ·of-map}
-use Prim.Native.Nat.{ℕ, _+_, _*_, _-_, _≤_, _<_, _^_}
+use mathlib.Core.Bool.{true, false}
+use mathlib.Core.List.{List, [], _∷_, _++_, map, map-append, append-nil, List·Memᴰ, Memᴰ·of-map}
+use Prim.Native.Nat.{ℕ, _+_, _≤_, _<_, _^_}
 use native.Mathlib.Numerals.{add-one}
 use native.Mathlib.Omega.{arith}
-use lib.IntN.{natAbs}
 use lib.ListN.{length, take}
 use lib.Seq.{take-suc, take-length}
-use Rattle.exact.specs.Lists.{from, keep, holds, smallest}
-use Rattle.exact.specs.Fractions.{ShortDenominator}
+use Rattle.exact.specs.Lists.{keep, holds}
+use Rattle.exact.specs.Fractions.{ShortDenominator, zeroFraction}
 use Rattle.exact.specs.declared.fractions.Fraction.{Fraction}
-use Rattle.exact.proofs.Reduced.{reduced-num-≤}
-use Rattle.exact.proofs.Members.{getD-mem, keep-mem, take-mem}
-use Rattle.rules.specs.Plan.{Plan, columns, level, entry}
-use Rattle.sets.specs.Sets.{binom, setsOf, setAt}
+use Rattle.exact.proofs.Lists.{keep-++}
+use Rattle.exact.proofs.Members.{keep-mem, take-mem}
+use Rattle.rules.specs.Plan.{Plan, level, entry}
+use Rattle.sets.specs.Sets.{binom, choose}
 use Rattle.sets.proofs.Parts.{choose-part}
-use Rattle.sets.proofs.Pascal.{many-sets}
-use Rattle.words.specs.Words.{wordOf}
+use Rattle.sets.proofs.Pascal.{length-choose}
+use Rattle.sets.proofs.Among.{chosen}
 use Rattle.projections.specs.Given.{Projection, Tabled}
 use Rattle.projections.specs.Projections.{relativeOf}
-use Rattle.projections.proofs.Products.{part-projection}
+use Rattle.projections.proofs.Products.{within-projection}
 use Rattle.projections.proofs.SetWords.{word-small}
-use Rattle.projections.proofs.Values.{value-short}
-use Rattle.resolution.specs.Resolution.{greater, zeroFraction, greatest}
+use Rattle.projections.proofs.Values.{value-num, value-short}
+use Rattle.resolution.specs.Resolution.{greater, greatest}
 use Rattle.resolution.specs.Given.{ratiosOf}
 use Rattle.resolution.specs.declared.inner.Ratios.{Ratios}
 use Rattle.resolution.proofs.Greatest.{greatest-none, greatest-snoc, greatest-of}
-
-module _ {A : Type 0} where
-  keep-yes : (test : A → Bool) (xs : List A) (x : A) → test x ≡ true → keep test (xs ++ x ∷ []) ≡ keep test xs ++ x ∷ []
-  keep-yes test [] x e = rw e
-  keep-yes test (y ∷ ys) x e = go (test y) (keep-yes test ys x e)
-    where
-      go : (b : Bool) → keep test (ys ++ x ∷ []) ≡ keep test ys ++ x ∷ [] →
-          cond b (y ∷ keep test (ys ++ x ∷ [])) (keep test (ys ++ x ∷ [])) ≡ cond b (y ∷ keep test ys) (keep test ys) ++ x ∷ []
-      go true h = ap (λ l. y ∷ l) h
-      go false h = h
-
-  keep-no : (test : A → Bool) (xs : List A) (x : A) → test x ≡ false → keep test (xs ++ x ∷ []) ≡ keep test xs
-  keep-no test [] x e = rw e
-  keep-no test (y ∷ ys) x e = rw (keep-no test ys x e)
 
 -- ---- one set more
 
@@ -66,75 +51,65 @@ module _ (p : Plan) (rs : List ℕ) (i : ℕ) where
 
     held-snoc : holds i I ≡ true → ratiosOf p rs (Js ++ I ∷ []) i .held ≡ greater (ratiosOf p rs Js i .held) (ratio I)
     unfolding ratiosOf
-    held-snoc e = ap (λ l. greatest (map ratio l)) (keep-yes (holds i) Js I e) ∙ ratio-snoc (keep (holds i) Js) I
+    held-snoc e = rw (keep-++ (holds i) Js (I ∷ []), e) (ratio-snoc (keep (holds i) Js) I)
 
     other-snoc : holds i I ≡ false → ratiosOf p rs (Js ++ I ∷ []) i .held ≡ ratiosOf p rs Js i .held
     unfolding ratiosOf
-    other-snoc e = ap (λ l. greatest (map ratio l)) (keep-no (holds i) Js I e)
+    other-snoc e = rw (keep-++ (holds i) Js (I ∷ []), e, append-nil (keep (holds i) Js))
 
--- ---- the sets of f columns, place after place
+-- ---- the sets of f of some columns, place after place
 
-module _ (p : Plan) (rs : List ℕ) (i f : ℕ) where
+module _ (p : Plan) (rs cols : List ℕ) (i f : ℕ) where
   -- the ratios of the sets at the places before k
   abbrev pub before : ℕ → Ratios
-  before k = ratiosOf p rs (take k (setsOf (columns p) f)) i
+  before k = ratiosOf p rs (take k (choose f cols)) i
 
-  pub before-all : (k : ℕ) → k ≡ binom (columns p) f → before k ≡ ratiosOf p rs (setsOf (columns p) f) i
+  pub before-all : (k : ℕ) → k ≡ binom (length cols) f → before k ≡ ratiosOf p rs (choose f cols) i
   before-all k e =
-      ap (λ l. ratiosOf p rs l i) (ap (λ n. take n (setsOf (columns p) f)) (e ∙ sym (many-sets f 0 (columns p))) ∙ take-length (setsOf (columns p) f))
+      ap (λ l. ratiosOf p rs l i) (ap (λ n. take n (choose f cols)) (e ∙ sym (length-choose f cols)) ∙ take-length (choose f cols))
 
-  module _ (k : ℕ) (h : k < binom (columns p) f) where
-    place-next : take (k + 1) (setsOf (columns p) f) ≡ take k (setsOf (columns p) f) ++ setAt (columns p) f k ∷ []
-    unfolding setAt
-    place-next = rw (add-one, take-suc (setsOf (columns p) f) k [] (rw (many-sets f 0 (columns p)) h))
+  module _ (k : ℕ) (h : k < binom (length cols) f) where
+    place-next : take (k + 1) (choose f cols) ≡ take k (choose f cols) ++ chosen cols f k ∷ []
+    place-next = rw (add-one, take-suc (choose f cols) k [] (rw (length-choose f cols) h))
 
-    pub largest-next : before (k + 1) .largest ≡ greater (before k .largest) (relativeOf (level p) (entry p) rs (setAt (columns p) f k))
-    largest-next = rw place-next (largest-snoc p rs i (take k (setsOf (columns p) f)) (setAt (columns p) f k))
+    pub largest-next : before (k + 1) .largest ≡ greater (before k .largest) (relativeOf (level p) (entry p) rs (chosen cols f k))
+    largest-next = rw place-next (largest-snoc p rs i (take k (choose f cols)) (chosen cols f k))
 
-    pub held-next : holds i (setAt (columns p) f k) ≡ true →
-        before (k + 1) .held ≡ greater (before k .held) (relativeOf (level p) (entry p) rs (setAt (columns p) f k))
-    held-next e = rw place-next (held-snoc p rs i (take k (setsOf (columns p) f)) (setAt (columns p) f k) e)
+    pub held-next : holds i (chosen cols f k) ≡ true →
+        before (k + 1) .held ≡ greater (before k .held) (relativeOf (level p) (entry p) rs (chosen cols f k))
+    held-next e = rw place-next (held-snoc p rs i (take k (choose f cols)) (chosen cols f k) e)
 
-    pub other-next : holds i (setAt (columns p) f k) ≡ false → before (k + 1) .held ≡ before k .held
-    other-next e = rw place-next (other-snoc p rs i (take k (setsOf (columns p) f)) (setAt (columns p) f k) e)
-
-    pub set-chosen : List·Memᴰ (setAt (columns p) f k) (setsOf (columns p) f)
-    unfolding setAt
-    set-chosen = getD-mem (setsOf (columns p) f) k [] (rw (many-sets f 0 (columns p)) h)
+    pub other-next : holds i (chosen cols f k) ≡ false → before (k + 1) .held ≡ before k .held
+    other-next e = rw place-next (other-snoc p rs i (take k (choose f cols)) (chosen cols f k) e)
 
 -- ---- every set is a projection, and its ratio has a short denominator
 
-module _ (p : Plan) (rs : List ℕ) (G : Tabled p rs) (f : ℕ) (some : 1 ≤ f) where
-  pub set-projection : (I : List ℕ) → List·Memᴰ I (setsOf (columns p) f) → Projection p I × (1 ≤ length I)
-  set-projection I m =
-      let (part, e) = choose-part f (from 0 (columns p)) I m in
-      (part-projection p (G .sound .level-low) (G .sound .small) I part, rw e some)
+module _ (p : Plan) (rs cols : List ℕ) (G : Tabled p rs) (K : Projection p cols) (f : ℕ) (some : 1 ≤ f) where
+  pub set-projection : (I : List ℕ) → List·Memᴰ I (choose f cols) → Projection p I × (1 ≤ length I)
+  set-projection I m = let (part, e) = choose-part f cols I m in (within-projection p (G .sound .level-low) part K, rw e some)
 
   -- a ratio that can be compared, and that an f64 holds
   abbrev Exact : Fraction → Type 0
   Exact x = ShortDenominator x × (x .num ≤ 2 ^ 53)
 
-  ratio-exact : (I : List ℕ) → List·Memᴰ I (setsOf (columns p) f) → Exact (relativeOf (level p) (entry p) rs I)
-  unfolding relativeOf
+  ratio-exact : (I : List ℕ) → List·Memᴰ I (choose f cols) → Exact (relativeOf (level p) (entry p) rs I)
   ratio-exact I m =
       let (P, l) = set-projection I m in
-      let w = natAbs (wordOf (level p) (entry p) rs I) in
-      let d = length rs * length rs * (smallest (map (level p) I) - 1) in
-      (value-short p rs I G P l true, omega (arith, reduced-num-≤ w d, word-small p rs I (G .sound) P 0))
+      (value-short p rs I G P l true, omega (arith, value-num p rs I true, word-small p rs I (G .sound) P 0))
 
-  pub ratios-small : (Js : List (List ℕ)) → ((I : List ℕ) → List·Memᴰ I Js → List·Memᴰ I (setsOf (columns p) f)) →
+  pub ratios-small : (Js : List (List ℕ)) → ((I : List ℕ) → List·Memᴰ I Js → List·Memᴰ I (choose f cols)) →
       Exact (greatest (map (relativeOf (level p) (entry p) rs) Js))
   ratios-small Js h =
       greatest-of Exact (map (relativeOf (level p) (entry p) rs) Js) (record { above-zero = omega arith; short = omega arith }, omega arith)
       (λ x m. let (I, k, e) = Memᴰ·of-map (relativeOf (level p) (entry p) rs) Js m in subst Exact e (ratio-exact I (h I k)))
 
   module _ (i k : ℕ) where
-    pub largest-short : ShortDenominator (before p rs i f k .largest)
+    pub largest-short : ShortDenominator (before p rs cols i f k .largest)
     unfolding ratiosOf
-    largest-short = ratios-small (take k (setsOf (columns p) f)) (λ I m. take-mem k (setsOf (columns p) f) I m) .0
+    largest-short = ratios-small (take k (choose f cols)) (λ I m. take-mem k (choose f cols) I m) .0
 
-    pub held-short : ShortDenominator (before p rs i f k .held)
+    pub held-short : ShortDenominator (before p rs cols i f k .held)
     unfolding ratiosOf
     held-short =
-        ratios-small (keep (holds i) (take k (setsOf (columns p) f)))
-        (λ I m. take-mem k (setsOf (columns p) f) I (keep-mem (holds i) (take k (setsOf (columns p) f)) I m)) .0
+        ratios-small (keep (holds i) (take k (choose f cols)))
+        (λ I m. take-mem k (choose f cols) I (keep-mem (holds i) (take k (choose f cols)) I m)) .0

@@ -8,7 +8,7 @@ use lib.IntN.{pos}
 use lib.Signed.{ltZ}
 use lib.ListN.{length}
 use Rattle.exact.specs.Lists.{first}
-use Rattle.exact.specs.Fractions.{smallerFraction, isBetter}
+use Rattle.exact.specs.Fractions.{zeroFraction, smallerFraction, isBetter}
 use Rattle.exact.specs.declared.fractions.Fraction.{Fraction}
 use Rattle.rules.specs.Plan.{Plan, columns, level, entry, everyColumn}
 use Rattle.rules.specs.Refusals.{Check, refusal, unless, noResolution, aboveOne}
@@ -26,9 +26,6 @@ greater x y = cond (isBetter (smallerFraction x y)) y x
 abbrev pub greatestFrom : Fraction → List Fraction → Fraction
 greatestFrom x [] = x
 greatestFrom x (y ∷ ys) = greatestFrom (greater x y) ys
-
-abbrev pub zeroFraction : Fraction
-zeroFraction = record { num = 0; den = 1 }
 
 -- the greatest of the fractions, and 0/1 where there is none
 unfoldable pub greatest : List Fraction → Fraction

@@ -3,19 +3,20 @@ use exact::fractions::Fraction;
 use exact::fractions::Verdict;
 use exact::fractions::smaller_fraction;
 use exact::signed;
+use plan::inner::several_levels;
 use projections::inner::value;
 use rules::Refusal;
 use rules::sizes::MOST_COLUMNS;
 use sets::inner::binomial;
-use sets::inner::set_at;
+use sets::inner::set_of;
 ghost use mathlib.Core.Path.{_≡_};
 ghost use Prim.Native.Nat.{_≤_};
 ghost use lib.ListN.{length};
 ghost use Rattle.exact.specs.Fractions.{ShortDenominator};
 ghost use Rattle.exact.specs.Lists.{holds};
 ghost use Rattle.rules.specs.Plan.{plan, columns, everyRun, mostColumns};
-ghost use Rattle.sets.specs.Sets.{setsOf};
-ghost use Rattle.projections.specs.Given.{Tabled};
+ghost use Rattle.sets.specs.Sets.{choose, setsOf};
+ghost use Rattle.projections.specs.Given.{Projection, Tabled};
 ghost use Rattle.resolution.specs.Resolution.{greater};
 ghost use Rattle.resolution.specs.Given.{Measured, wordIn, firstAbove, ratiosOf, refusing, ratingOf, ofColumn};
 
@@ -76,7 +77,37 @@ fn holds(columns: &[usize], column: usize) -> bool
     false
 }
 
-// The largest ratio of the sets of `size` columns, and of those that hold the column: one walk over the sets.
+// The largest ratio of the sets of `size` of these columns, and of those that hold the column: one walk over the sets.
+fn ratios_of(
+    levels: &[u8],
+    table: &[u8],
+    runs: &[usize],
+    columns: &[usize],
+    size: usize,
+    column: usize,
+) -> Ratios
+    requires { ⌜ Tabled (plan (now levels) (now table)) (now runs)
+        × (Projection (plan (now levels) (now table)) (now columns) × (length (now columns) ≤ mostColumns)) ⌝ }
+    requires { ⌜ (1 ≤ size) × (size ≤ mostColumns) ⌝ }
+    ensures { λ r.
+        ⌜ (let p = plan (now (levels .entry)) (now (table .entry)) in
+        r ≡ ratiosOf p (now (runs .entry)) (choose size (now (columns .entry))) column) ⌝ }
+{
+    let many = binomial(columns.len(), size);
+    let mut largest = Fraction { num: 0, den: 1 };
+    let mut held = Fraction { num: 0, den: 1 };
+    for k in 0..many {
+        let set = set_of(columns, size, k);
+        let ratio = value(levels, table, runs, &set[..size], true);
+        largest = greater(largest, ratio);
+        if holds(&set[..size], column) {
+            held = greater(held, ratio);
+        }
+    }
+    Ratios { largest, held }
+}
+
+// The same of all columns. A set with a column of one level has the ratio zero, which is never the greater: such sets are not walked.
 pub fn largest_ratios(
     levels: &[u8],
     table: &[u8],
@@ -88,19 +119,10 @@ pub fn largest_ratios(
     ensures { λ r.
         ⌜ (let p = plan (now (levels .entry)) (now (table .entry)) in r ≡ ratiosOf p (now (runs .entry)) (setsOf (columns p) size) column) ⌝ }
 {
-    let m = levels.len();
-    let many = binomial(m, size);
-    let mut largest = Fraction { num: 0, den: 1 };
-    let mut held = Fraction { num: 0, den: 1 };
-    for k in 0..many {
-        let set = set_at(m, size, k);
-        let ratio = value(levels, table, runs, &set[..size], true);
-        largest = greater(largest, ratio);
-        if holds(&set[..size], column) {
-            held = greater(held, ratio);
-        }
-    }
-    Ratios { largest, held }
+    let several = several_levels(levels);
+    let columns = several.columns;
+    let many = several.many;
+    ratios_of(levels, table, runs, &columns[..many], size, column)
 }
 
 // The word of length j; no set has more than 24 columns, so that a greater length has the word zero.

@@ -1,8 +1,9 @@
 -- Document 01, "What the product covers" and "Sizes". Runs and columns are numbered from 0.
 use mathlib.Core.List.{List}
 use Prim.Native.Nat.{ℕ, _+_, _*_, _/_}
+use lib.Dec.{ltb}
 use lib.ListN.{length, getD}
-use Rattle.exact.specs.Lists.{from}
+use Rattle.exact.specs.Lists.{from, keep}
 
 -- a plan is a list of levels and a run table, run after run
 pub record Plan : Type 0 where
@@ -35,7 +36,11 @@ everyColumn p = from 0 (columns p)
 abbrev pub everyRun : Plan → List ℕ
 everyRun p = from 0 (runs p)
 
--- the sizes: 1 to 24 columns, 1 to 256 runs, levels 2 to 16, their product, bytes of plan text
+-- the columns of more than one level, in their order; s is the level of each
+abbrev pub several : {C : Type 0} → (C → ℕ) → List C → List C
+several s cols = keep (λ i. ltb 1 (s i)) cols
+
+-- the sizes: 1 to 24 columns, 1 to 256 runs, levels 1 to 16 (by request #102), their product, bytes of plan text
 abbrev pub mostColumns : ℕ
 mostColumns = 24
 
@@ -43,7 +48,7 @@ abbrev pub mostRuns : ℕ
 mostRuns = 256
 
 abbrev pub lowestLevel : ℕ
-lowestLevel = 2
+lowestLevel = 1
 
 abbrev pub highestLevel : ℕ
 highestLevel = 16

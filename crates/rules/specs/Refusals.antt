@@ -62,11 +62,11 @@ checkAt k b x y = record { fails = b; gives = placed k x y }
 abbrev pub badColumns : ℕ → Check
 badColumns m = check 1 (outside 1 mostColumns m)
 
--- the first column whose level is outside 2..16, and m where there is none
+-- the first column whose level is outside 1..16, and m where there is none
 unfoldable pub firstBadLevel : Plan → ℕ
 firstBadLevel p = first (λ i. outside lowestLevel highestLevel (level p i)) 0 (columns p)
 
--- 2: a level is outside 2..16; the first such column
+-- 2: a level is outside 1..16; the first such column
 abbrev pub badLevel : Plan → Check
 badLevel p = checkAt 2 (ltb (firstBadLevel p) (columns p)) (firstBadLevel p) 0
 

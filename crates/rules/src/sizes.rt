@@ -3,7 +3,7 @@ pub const MOST_COLUMNS: usize = 24;
 
 pub const MOST_RUNS: usize = 256;
 
-pub const LOWEST_LEVEL: u8 = 2;
+pub const LOWEST_LEVEL: u8 = 1;
 
 pub const HIGHEST_LEVEL: u8 = 16;
 

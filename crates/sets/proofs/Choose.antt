@@ -1,13 +1,16 @@
 -- Sums over the sets of columns: over all sets of j members they are the elementary symmetric sums, worked out a member at a time.
-use mathlib.Core.Path.{_≡_, refl, sym}
+use mathlib.Core.Path.{_≡_, refl, sym, _∙_, ap}
+use mathlib.Core.Bool.{Bool, true, false, cond, _&&_}
 use mathlib.Core.List.{List, [], _∷_, _++_, map, List·Memᴰ, List·Memᴰ·head, List·Memᴰ·tail}
 use Prim.Native.Nat.{ℕ, zero, suc, _<_}
 use native.Mathlib.Omega.{arith}
 use lib.ListN.{length}
 use lib.IntN.{ℤ, pos, _+ℤ_, _*ℤ_, +ℤ-comm, +ℤ-assoc, *ℤ-zero}
-use Rattle.exact.specs.Lists.{sum, prod}
+use Rattle.exact.specs.Lists.{sum, prod, all, keep}
 use Rattle.exact.proofs.Ring.{ring}
 use Rattle.exact.proofs.Sums.{sum-++, sum-map, sum-*}
+use Rattle.exact.proofs.Lists.{keep-++, keep-map, keep-none, map-map}
+use Rattle.exact.proofs.Rooms.{map-++}
 use Rattle.sets.specs.Sets.{choose}
 
 module _ {A : Type 0} where
@@ -69,3 +72,29 @@ module _ {A : Type 0} where
   esp-snoc zero (y ∷ xs) x f = rw (esp-snoc zero xs x f) (sym (+ℤ-assoc (f y *ℤ pos 1) (esp 1 xs f) (f x *ℤ pos 1)))
   esp-snoc (suc j) (y ∷ xs) x f =
       rw (esp-snoc j xs x f, esp-snoc (suc j) xs x f) (regroup (f x) (f y) (esp j xs f) (esp (suc j) xs f) (esp (suc (suc j)) xs f))
+
+-- ---- members left out, and other names for the members
+
+module _ {A : Type 0} (test : A → Bool) where
+  -- the sets whose members all pass are the sets of the members that pass, in the same order
+  pub choose-keep : (j : ℕ) (xs : List A) → keep (λ I. all I test) (choose j xs) ≡ choose j (keep test xs)
+  choose-keep zero xs = refl
+  choose-keep (suc j) [] = refl
+  choose-keep (suc j) (x ∷ xs) =
+      keep-++ (λ I. all I test) (map (λ I. x ∷ I) (choose j xs)) (choose (suc j) xs)
+      ∙ rw (keep-map (λ I. all I test) (λ I. x ∷ I) (choose j xs), choose-keep (suc j) xs) (go (test x) (choose-keep j xs))
+    where
+      go : (b : Bool) → keep (λ I. all I test) (choose j xs) ≡ choose j (keep test xs) →
+          map (λ I. x ∷ I) (keep (λ I. b && all I test) (choose j xs)) ++ choose (suc j) (keep test xs)
+          ≡ choose (suc j) (cond b (x ∷ keep test xs) (keep test xs))
+      go true having = ap (λ l. map (λ I. x ∷ I) l ++ choose (suc j) (keep test xs)) having
+      go false having = ap (λ l. map (λ I. x ∷ I) l ++ choose (suc j) (keep test xs)) (keep-none (choose j xs))
+
+module _ {A B : Type 0} (g : A → B) where
+  pub choose-map : (j : ℕ) (xs : List A) → choose j (map g xs) ≡ map (map g) (choose j xs)
+  choose-map zero xs = refl
+  choose-map (suc j) [] = refl
+  choose-map (suc j) (x ∷ xs) =
+      rw (choose-map j xs, choose-map (suc j) xs, map-++ (map g) (map (λ I. x ∷ I) (choose j xs)) (choose (suc j) xs))
+      (ap (λ l. l ++ map (map g) (choose (suc j) xs))
+      (map-map (λ I. g x ∷ I) (map g) (choose j xs) ∙ sym (map-map (map g) (λ I. x ∷ I) (choose j xs))))

@@ -3,6 +3,7 @@ pub mod Parts
 pub mod Pascal
 pub mod Rising
 pub mod Places
+pub mod Among
 pub mod Walks
 pub mod Questions
 pub mod Figures

@@ -1,5 +1,6 @@
 -- The parts of a list: its members in their order, some left out. What `choose` and `subsets` list.
 use mathlib.Core.Path.{_≡_, refl, sym, _∙_, ap, subst}
+use mathlib.Core.Bool.{Bool, true, false, cond}
 use mathlib.Core.Logic.{_⊎_, inl, inr, ⊎-elim}
 use mathlib.Core.List.{List, [], _∷_, _++_, map, List·Memᴰ, List·Memᴰ·head, List·Memᴰ·tail, List·Memᴰ·not-nil}
 use mathlib.Core.List.{List·Memᴰ·append-cases, List·Memᴰ·eq-of-singleton, Memᴰ·of-map, Memᴰ·map, Memᴰ·append-left, Memᴰ·append-right}
@@ -9,6 +10,7 @@ use native.Mathlib.Omega.{arith}
 use lib.ListN.{length}
 use lib.IntN.{ℤ, pos, _+ℤ_, +ℤ-idl, +ℤ-comm}
 use Rattle.exact.specs.Lists.{sum}
+use Rattle.exact.specs.Lists as lists
 use Rattle.exact.proofs.Sums.{sum-++, sum-map}
 use Rattle.sets.specs.Sets.{choose}
 use Rattle.sets.proofs.Choose.{subsets}
@@ -27,6 +29,14 @@ module _ {A : Type 0} where
   pub part-all : (K : List A) → Part K K
   part-all [] = none
   part-all (x ∷ K) = keep (part-all K)
+
+  pub part-kept : (test : A → Bool) (K : List A) → Part (lists.keep test K) K
+  part-kept test [] = none
+  part-kept test (x ∷ K) = go (test x) (part-kept test K)
+    where
+      go : (b : Bool) → Part (lists.keep test K) K → Part (cond b (x ∷ lists.keep test K) (lists.keep test K)) (x ∷ K)
+      go true p = keep p
+      go false p = skip p
 
   pub part-trans : {I J K : List A} → Part I J → Part J K → Part I K
   part-trans p none = p

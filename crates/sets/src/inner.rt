@@ -1,11 +1,14 @@
 // For our own crates: the place of a set among the sets of its size, whatever the size.
 use crate::binomials::BINOMIALS;
 ghost use mathlib.Core.Path.{_≡_};
+ghost use mathlib.Core.List.{[]};
 ghost use Prim.Native.Nat.{_≤_, _<_};
 ghost use lib.Dec.{T};
+ghost use lib.ListN.{length, getD};
 ghost use Rattle.exact.specs.Lists.{filledTo};
+ghost use Rattle.rules.specs.Plan.{mostColumns};
 ghost use Rattle.rules.specs.Refusals.{isSet};
-ghost use Rattle.sets.specs.Sets.{binom, placeOf, setAt};
+ghost use Rattle.sets.specs.Sets.{binom, choose, placeOf, setAt};
 
 // The number of sets of b of a columns.
 pub fn binomial(a: usize, b: usize) -> usize
@@ -75,4 +78,18 @@ pub fn set_at(m: usize, j: usize, k: usize) -> [usize; 24]
         column += 1;
     }
     columns
+}
+
+// The set at place k among the sets of t of these columns, then zeros.
+pub fn set_of(columns: &[usize], t: usize, k: usize) -> [usize; 24]
+    requires { ⌜ (length (now columns) ≤ mostColumns) × (t ≤ length (now columns)) × (k < binom (length (now columns)) t) ⌝ }
+    ensures { λ r. ⌜ r ≡ filledTo 24 0 (getD (choose t (now (columns .entry))) k []) ⌝ }
+{
+    let places = set_at(columns.len(), t, k);
+    let mut set = [0; 24];
+    for i in 0..t {
+        let place = places[i];
+        set[i] = columns[place];
+    }
+    set
 }

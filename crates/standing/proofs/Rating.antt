@@ -24,7 +24,7 @@ use Rattle.held.proofs.Lent.{columns-in}
 
 module _ {h : Held} (H : IsHeld h) where
   pub tabled : 0 < h .runs → Tabled (planIn h) (standingIn h)
-  tabled n = record { sound = sized H .sound; some = sized H .some-stand n; level-low = sized H .level-low }
+  tabled n = record { sound = sized H .sound; some = sized H .some-stand n }
 
   pub measured : 0 < h .runs → Measured (planIn h) (standingIn h) (h .words)
   measured n = record { tabled = tabled n; of-runs = words-standing H }

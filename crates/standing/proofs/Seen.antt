@@ -1,6 +1,6 @@
 -- Each measure of some runs and columns sees only the entries of those runs in those columns.
 use mathlib.Core.Path.{_≡_, refl, sym, _∙_, ap, ap₂, fun-ext}
-use mathlib.Core.Bool.{Bool, _&&_}
+use mathlib.Core.Bool.{Bool, cond, _&&_}
 use mathlib.Core.List.{List, [], _∷_, map, List·Memᴰ, List·Memᴰ·head, List·Memᴰ·tail}
 use Prim.Native.Nat.{ℕ, _*_, _-_}
 use lib.Dec.{eqb}
@@ -8,7 +8,7 @@ use lib.IntN.{ℤ, pos, natAbs}
 use lib.ListN.{length}
 use lib.Signed.{ltZ}
 use Rattle.exact.specs.Lists.{from, prod, all, keep, holds, largest, alike, first, smallest}
-use Rattle.exact.specs.Fractions.{reduced}
+use Rattle.exact.specs.Fractions.{zeroFraction, reduced}
 use Rattle.exact.proofs.Lists.{map-cong-in}
 use Rattle.exact.proofs.Sums.{sum-cong-in}
 use Rattle.exact.proofs.Members.{keep-mem}
@@ -60,6 +60,11 @@ module _ (level : ℕ → ℕ) (entry other : ℕ → ℕ → ℕ) (rs cols : Li
     set-seen = sum-cong-in rs (λ f mf. sum-cong-in rs (λ g mg. prod-cong-in I (λ i mi.
         ap₂ (score (level i)) (same f mf i (part i mi)) (same g mg i (part i mi)))))
 
+    ratio-of-set-seen : relativeOf level entry rs I ≡ relativeOf level other rs I
+    unfolding relativeOf
+    ratio-of-set-seen =
+        ap (λ w. cond (holds 1 (map level I)) zeroFraction (reduced (natAbs w) (length rs * length rs * (smallest (map level I) - 1)))) set-seen
+
     shows-seen : (f : ℕ) → List·Memᴰ f rs → (P : List ℕ) → shows entry f I P ≡ shows other f I P
     shows-seen f mf = go I part
       where
@@ -86,9 +91,7 @@ module _ (level : ℕ → ℕ) (entry other : ℕ → ℕ → ℕ) (rs cols : Li
       ap (λ w. reduced (natAbs w) (length rs * length rs)) (set-seen I (chosen f I m))))
 
   pub relatives-seen : (j : ℕ) → map (relativeOf level entry rs) (choose j cols) ≡ map (relativeOf level other rs) (choose j cols)
-  unfolding relativeOf
-  relatives-seen j = map-cong-in (choose j cols) (λ I m.
-      ap (λ w. reduced (natAbs w) (length rs * length rs * (smallest (map level I) - 1))) (set-seen I (chosen j I m)))
+  relatives-seen j = map-cong-in (choose j cols) (λ I m. ratio-of-set-seen I (chosen j I m))
 
   pub relative-seen : (f : ℕ) → relativeTable level entry rs cols f ≡ relativeTable level other rs cols f
   unfolding relativeTable
@@ -111,7 +114,4 @@ module _ (level : ℕ → ℕ) (entry other : ℕ → ℕ → ℕ) (rs cols : Li
   -- of the sets that hold column i
   pub column-seen : (i j : ℕ) →
       map (relativeOf level entry rs) (keep (holds i) (choose j cols)) ≡ map (relativeOf level other rs) (keep (holds i) (choose j cols))
-  unfolding relativeOf
-  column-seen i j = map-cong-in (keep (holds i) (choose j cols)) (λ I m.
-      ap (λ w. reduced (natAbs w) (length rs * length rs * (smallest (map level I) - 1)))
-      (set-seen I (chosen j I (keep-mem (holds i) (choose j cols) I m))))
+  column-seen i j = map-cong-in (keep (holds i) (choose j cols)) (λ I m. ratio-of-set-seen I (chosen j I (keep-mem (holds i) (choose j cols) I m)))

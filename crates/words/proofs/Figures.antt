@@ -28,6 +28,10 @@ is q a = record { question = q; answer = a }
 abbrev listed : Plan
 listed = plan (2 ∷ 3 ∷ []) (0 ∷ 0 ∷ 0 ∷ 1 ∷ 1 ∷ 2 ∷ [])
 
+-- the same with a column of one level between the two
+abbrev graded : Plan
+graded = plan (2 ∷ 1 ∷ 3 ∷ []) (0 ∷ 0 ∷ 0 ∷ 0 ∷ 0 ∷ 1 ∷ 1 ∷ 0 ∷ 2 ∷ [])
+
 -- levels 2,2,2, runs 000 011 101 110
 abbrev half : Plan
 half = plan (2 ∷ 2 ∷ 2 ∷ []) (0 ∷ 0 ∷ 0 ∷ 0 ∷ 1 ∷ 1 ∷ 1 ∷ 0 ∷ 1 ∷ 1 ∷ 1 ∷ 0 ∷ [])
@@ -54,6 +58,9 @@ figures =
     ∷ is (words half (0 ∷ 1 ∷ 2 ∷ [])) (pos 3 ∷ pos 3 ∷ pos 9 ∷ [])
     ∷ is (words full (everyRun full)) (pos 0 ∷ pos 0 ∷ [])
     ∷ is (words single (everyRun single)) (pos 3 ∷ pos 2 ∷ [])
+    -- not of the paper: the column of one level adds to no word
+    ∷ is (words graded (everyRun graded)) (pos 1 ∷ pos 8 ∷ pos 0 ∷ [])
+    ∷ is (rowSums graded (everyRun graded) 2) (pos 2 ∷ pos 2 ∷ pos 4 ∷ [])
     ∷ []
 
 words-figures : map (λ c. ask (c .question)) figures ≡ map (λ c. c .answer) figures

@@ -1,26 +1,19 @@
 -- The words by pairs of runs and by rows; what a strike and a reinstatement do to them.
 use mathlib.Core.Path.{_≡_, refl, sym, _∙_, ap, ap₂}
-use mathlib.Core.Bool.{Bool, true, false}
 use mathlib.Core.List.{List, [], _∷_, _++_, List·Memᴰ}
 use Prim.Native.Nat.{ℕ, _<_}
-use lib.Dec.{T, eqb, eqb→eq, eqb-refl}
+use lib.Dec.{eqb, eqb→eq, eqb-refl}
 use lib.ListN.{length}
 use lib.IntN.{ℤ, pos, negsuc, _+ℤ_, _-ℤ_, _*ℤ_}
 use Rattle.exact.specs.Lists.{sum, prod}
 use Rattle.exact.proofs.Ring.{ring}
 use Rattle.exact.proofs.Sums.{sum-cong, sum-cong-in, prod-cong, sum-swap, sum-+, sum-at, sum-0}
-use Rattle.exact.proofs.Tests.{is-true, is-false}
+use Rattle.exact.proofs.Tests.{is-true, is-false, iff-eq}
 use Rattle.sets.specs.Sets.{choose}
 use Rattle.sets.proofs.Choose.{esp, sum-choose, esp-cong-in, esp-above}
 use Rattle.words.specs.Words.{score, scoreAt, wordOf, word, pairSum, rowSum, diagonal}
 
 -- ---- the score of two entries
-
-iff-eq : (b c : Bool) → (T b → T c) → (T c → T b) → b ≡ c
-iff-eq true true f g = refl
-iff-eq true false f g = absurd (f tt)
-iff-eq false true f g = absurd (g tt)
-iff-eq false false f g = refl
 
 pub eqb-sym : (a b : ℕ) → eqb a b ≡ eqb b a
 eqb-sym a b = iff-eq (eqb a b) (eqb b a) (λ t. rw (eqb→eq a b t) (eqb-refl b)) (λ t. rw (eqb→eq b a t) (eqb-refl a))

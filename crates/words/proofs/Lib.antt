@@ -2,6 +2,7 @@ pub mod Laws
 pub mod Bound
 pub mod Squares
 pub mod Positive
+pub mod OneLevel
 pub mod Rows
 pub mod Columns
 pub mod Marked

@@ -8,32 +8,33 @@ use native.Mathlib.Omega.{arith}
 use lib.ListN.{length, drop}
 use lib.Seq.{length-take-le}
 use Rattle.exact.specs.Lists.{all}
-use Rattle.rules.specs.Plan.{plan, level, entry, everyColumn}
-use Rattle.sets.specs.Sets.{binom, setsOf}
-use Rattle.sets.proofs.Pascal.{many-sets}
+use Rattle.rules.specs.Plan.{plan, level, entry}
+use Rattle.sets.specs.Sets.{binom, choose}
+use Rattle.sets.proofs.Pascal.{length-choose}
 use Rattle.counts.specs.Counts.{even, balanced}
-use Rattle.counts.proofs.Turns.{set-front, set-columns, balanced-next, all-passed}
+use Rattle.sets.proofs.Among.{chosen-front}
+use Rattle.counts.proofs.Turns.{chosen-columns, balanced-next, all-passed}
 use Rattle.counts.proofs.inner.is_balanced.Statement.{statement}
 use Rattle.counts.proofs.inner.is_balanced.Tie as tie
 
 abbrev Inv-loop : tie.InvT-loop
-Inv-loop levels table runs t m many k₀ k =
+Inv-loop levels table runs columns t many k₀ k =
     let p = plan levels table in
-    (m ≡ length levels) × (many ≡ binom (length levels) t) × (k ≤ many)
-    × (all (drop k (setsOf (length levels) t)) (even (level p) (entry p) runs) ≡ balanced (level p) (entry p) runs (everyColumn p) t)
+    (many ≡ binom (length columns) t) × (k ≤ many)
+    × (all (drop k (choose t columns)) (even (level p) (entry p) runs) ≡ balanced (level p) (entry p) runs columns t)
 
 abbrev μ-loop : tie.MeasureT-loop
-μ-loop levels table runs t m many k₀ k = many - k
+μ-loop levels table runs columns t many k₀ k = many - k
 
 binomial-requires : tie.Need-binomial-requires Inv-loop μ-loop
 binomial-requires c κs = search needs
 
 loop-holds : tie.Need-loop-holds Inv-loop μ-loop
 unfolding balanced
-loop-holds c = (refl, c .binomial .ensures, omega arith, refl)
+loop-holds c = (c .binomial .ensures, omega arith, refl)
 
-set-at-requires : tie.Need-set-at-requires Inv-loop μ-loop
-set-at-requires c κs = search needs
+set-of-requires : tie.Need-set-of-requires Inv-loop μ-loop
+set-of-requires c κs = search needs
 
 array-share-prefix-set : tie.Need-array-share-prefix-set Inv-loop μ-loop
 array-share-prefix-set c = search needs
@@ -42,34 +43,31 @@ array-share-prefix-set c = search needs
 module _ (c : tie.After-is-even Inv-loop μ-loop) where
   step :
       let l = c .before .before .before .before in
-      let a = l .before .before .before .before .before .args in
+      let a = l .before .before .before .before .before .before .args in
       let p = plan (a .levels .now) (a .table .now) in
-      balanced (level p) (entry p) (a .runs .now) (everyColumn p) (a .t) ≡
-      (c .is-even .result && all (drop (l .loop .k + 1) (setsOf (length (a .levels .now)) (a .t))) (even (level p) (entry p) (a .runs .now)))
+      balanced (level p) (entry p) (a .runs .now) (a .columns .now) (a .t) ≡
+      (c .is-even .result && all (drop (l .loop .k + 1) (choose (a .t) (a .columns .now))) (even (level p) (entry p) (a .runs .now)))
   step =
       let l = c .before .before .before .before in
-      let s = l .before .before .before .before .before in
-      let a = s .args in
-      let p = plan (a .levels .now) (a .table .now) in
-      sym (l .loop .inv .3)
-      ∙ balanced-next p (a .runs .now) (s .pre .0) (a .t) (l .loop .k) (omega arith) (c .is-even .result)
-      (rw (c .before .before .set-at .ensures) at (c .is-even .ensures))
+      let a = l .before .before .before .before .before .before .args in
+      sym (l .loop .inv .2)
+      ∙ balanced-next (a .columns .now) (a .t) (l .loop .k) (omega arith) (plan (a .levels .now) (a .table .now)) (a .runs .now) (c .is-even .result)
+      (rw (c .before .before .set-of .ensures) at (c .is-even .ensures))
 
 slice-aggregate-is-even : tie.Need-slice-aggregate-is-even Inv-loop μ-loop
 slice-aggregate-is-even c =
-    sym (length-take-le (c .before .before .before .before .before .before .before .before .args .t) (c .before .set-at .result) (search needs))
+    sym (length-take-le (c .before .before .before .before .before .before .before .before .before .args .t) (c .before .set-of .result) (search needs))
 
 is-even-requires : tie.Need-is-even-requires Inv-loop μ-loop
 is-even-requires c κs =
     let l = c .before .before .before in
-    let s = l .before .before .before .before .before in
-    let a = s .args in
-    let p = plan (a .levels .now) (a .table .now) in (
+    let s = l .before .before .before .before .before .before in
+    let a = s .args in (
       s .pre .0,
       (
         s .pre .1 .0,
-        rw (c .before .set-at .ensures, set-front p (a .runs .now) (s .pre .0) (a .t) (l .loop .k) (omega arith))
-            (set-columns p (a .runs .now) (s .pre .0) (a .t) (l .loop .k) (omega arith)),
+        rw (c .before .set-of .ensures, chosen-front (a .columns .now) (a .t) (l .loop .k) (omega arith))
+            (chosen-columns (a .columns .now) (a .t) (l .loop .k) (omega arith) (s .pre .1 .1 .0)),
       ),
     )
 
@@ -85,21 +83,19 @@ loop-less c = omega arith
 loop-again : tie.Need-loop-again Inv-loop μ-loop
 loop-again c =
     let l = c .before .before .before .before .before in (
-      refl,
       l .before .binomial .ensures,
       omega arith,
-      sym (step (c .before) ∙ rw (not-false (c .before .is-even .result) (c .if1 .left))),
+      sym (rw (not-false (c .before .is-even .result) (c .if1 .left)) at (step (c .before))),
     )
 
 returns-2 : tie.Need-returns-2 Inv-loop μ-loop
 returns-2 c =
     let l = c .before in
-    let s = l .before .before .before .before .before in
-    let a = s .args in
+    let a = l .before .before .before .before .before .before .args in
     let p = plan (a .levels .now) (a .table .now) in
-    sym (sym (l .loop .inv .3)
-    ∙ all-passed (even (level p) (entry p) (a .runs .now)) (setsOf (length (a .levels .now)) (a .t)) (l .loop .k)
-    (rw (many-sets (a .t) 0 (length (a .levels .now))) (omega arith)))
+    sym (sym (l .loop .inv .2)
+    ∙ all-passed (even (level p) (entry p) (a .runs .now)) (choose (a .t) (a .columns .now)) (l .loop .k)
+    (rw (length-choose (a .t) (a .columns .now)) (omega arith)))
 
 pub is-balanced-spec : {M : Type 1} → statement M
 is-balanced-spec =
@@ -109,7 +105,7 @@ is-balanced-spec =
     μ-loop
     binomial-requires
     loop-holds
-    set-at-requires
+    set-of-requires
     array-share-prefix-set
     slice-aggregate-is-even
     is-even-requires

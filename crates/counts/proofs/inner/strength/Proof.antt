@@ -1,63 +1,68 @@
--- `strength` meets its contract: the largest t up to the present one is, at each turn, the largest of all.
-use mathlib.Core.Path.{_≡_}
-use Prim.Native.Nat.{_≤_}
-use native.Mathlib.Omega.{arith}
-use lib.ListN.{length}
-use Rattle.rules.specs.Plan.{plan}
-use Rattle.counts.proofs.Turns.{Found, found-top, found-here, found-lower}
+-- `strength` meets its contract: what is found among the columns of several levels tells the strength of all.
+use borrow.Author.Needs.{needs}
+use mathlib.Core.Path.{_≡_, sym, _∙_}
+use lib.ListN.{take}
+use lib.Seq.{length-take-le}
+use Rattle.rules.specs.Plan.{plan, level, entry, everyColumn, several}
+use Rattle.counts.specs.Counts.{strength}
+use Rattle.plan.proofs.Several.{several-few, many-several, several-front, several-held}
+use Rattle.counts.proofs.Several.{several-columns, all-pass, not-all-pass}
 use Rattle.counts.proofs.inner.strength.Statement.{statement}
 use Rattle.counts.proofs.inner.strength.Tie as tie
 
-abbrev Inv-loop : tie.InvT-loop
-Inv-loop levels table runs t₀ t = (t ≤ length levels) × Found (plan levels table) runs t
+several-levels-requires : tie.Need-several-levels-requires
+several-levels-requires c κs = search needs
 
-abbrev μ-loop : tie.MeasureT-loop
-μ-loop levels table runs t₀ t = t
+array-share-prefix-columns : tie.Need-array-share-prefix-columns
+array-share-prefix-columns c =
+    let f = c .before in several-held (f .before .before .before .before .args .levels .now) (f .several-levels .ensures)
 
-loop-holds : tie.Need-loop-holds Inv-loop μ-loop
-loop-holds c =
-    let a = c .before .before .before .args in (omega arith, found-top (plan (a .levels .now) (a .table .now)) (a .runs .now))
+slice-aggregate-strength-of : tie.Need-slice-aggregate-strength-of
+slice-aggregate-strength-of c =
+    let f = c .before .before in
+    sym (length-take-le (f .several-levels .result .many) (f .several-levels .result .columns)
+    (several-held (f .before .before .before .before .args .levels .now) (f .several-levels .ensures)))
 
-is-balanced-requires : tie.Need-is-balanced-requires Inv-loop μ-loop
-is-balanced-requires c κs =
-    let s = c .before .before .before .before .before in (s .pre .0, (s .pre .1, c .before .loop .inv .0))
+-- the columns lent are those of several levels
+lent : (f : tie.After-several-levels) → let a = f .before .before .before .before .args in let p = plan (a .levels .now) (a .table .now) in
+    take (f .several-levels .result .many) (f .several-levels .result .columns) ≡ several (level p) (everyColumn p)
+lent f = several-front (f .before .before .before .before .args .levels .now) (f .several-levels .ensures)
 
-returns : tie.Need-returns Inv-loop μ-loop
+strength-of-requires : tie.Need-strength-of-requires
+strength-of-requires c κs =
+    let f = c .before .before in
+    let s = f .before .before .before .before in
+    let p = plan (s .args .levels .now) (s .args .table .now) in
+    let rs = s .args .runs .now in
+    rw (lent f) (s .pre .0, (s .pre .1, (several-columns p rs (s .pre .0), several-few p (s .pre .0 .columns-high))))
+
+-- what was found is their strength
+found : (c : tie.After-strength-of) → let a = c .before .before .before .before .before .before .before .args in
+    let p = plan (a .levels .now) (a .table .now) in
+    c .strength-of .result ≡ strength (level p) (entry p) (a .runs .now) (several (level p) (everyColumn p))
+found c = rw (lent (c .before .before .before)) at (c .strength-of .ensures)
+
+returns : tie.Need-returns
 returns c =
-    let l = c .before .before .before in
-    let a = l .before .before .before .before .args in
-    found-here (plan (a .levels .now) (a .table .now)) (a .runs .now) (l .loop .t) (c .before .is-balanced .result) (omega arith)
-    (c .before .is-balanced .ensures) (c .if1 .taken) (l .loop .inv .1)
+    let f = c .before .before .before .before in
+    let s = f .before .before .before .before in
+    all-pass (plan (s .args .levels .now) (s .args .table .now)) (s .args .runs .now) (s .pre .0) (c .before .strength-of .result) (found (c .before))
+    (c .if1 .taken ∙ many-several (s .args .levels .now) (f .several-levels .ensures))
 
-sub-t : tie.Need-sub-t Inv-loop μ-loop
-sub-t c = omega arith
-
-loop-less : tie.Need-loop-less Inv-loop μ-loop
-loop-less c = omega arith
-
-loop-again : tie.Need-loop-again Inv-loop μ-loop
-loop-again c =
-    let l = c .before .before .before in
-    let a = l .before .before .before .before .args in (
-      omega arith,
-      found-lower (plan (a .levels .now) (a .table .now)) (a .runs .now) (l .loop .t) (c .before .is-balanced .result) (omega arith)
-          (c .before .is-balanced .ensures) (c .if1 .left) (l .loop .inv .1),
-    )
-
-returns-2 : tie.Need-returns-2 Inv-loop μ-loop
+returns-2 : tie.Need-returns-2
 returns-2 c =
-    let e : c .before .loop .t ≡ 0 = omega arith in rw e at (c .before .loop .inv .1)
+    let f = c .before .before .before .before in
+    let s = f .before .before .before .before in
+    not-all-pass (plan (s .args .levels .now) (s .args .table .now)) (s .args .runs .now) (s .pre .0) (c .before .strength-of .result) (found (c .before))
+    (λ e. c .if1 .left (e ∙ sym (many-several (s .args .levels .now) (f .several-levels .ensures))))
 
 pub strength-spec : {M : Type 1} → statement M
 strength-spec =
     tie.close
     (tie.spec
-    Inv-loop
-    μ-loop
-    loop-holds
-    is-balanced-requires
+    several-levels-requires
+    array-share-prefix-columns
+    slice-aggregate-strength-of
+    strength-of-requires
     returns
-    sub-t
-    loop-less
-    loop-again
     returns-2)

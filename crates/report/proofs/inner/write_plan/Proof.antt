@@ -9,7 +9,7 @@ use Rattle.words.proofs.Answered.{run-front}
 use Rattle.resolution.specs.Resolution.{generalizedAnswer}
 use Rattle.resolution.specs.Given.{Measured, generalizedFrom}
 use Rattle.resolution.proofs.Answered.{generalized-is}
-use Rattle.resolution.proofs.Planned.{good-tabled}
+use Rattle.projections.proofs.Answers.{good-tabled}
 use Rattle.resolution.proofs.Rated.{own, rating-small}
 use Rattle.text.proofs.Puts.{put-as}
 use Rattle.report.proofs.Ratings.{above-one, not-above}

@@ -1,187 +1,72 @@
--- `largest_ratios` meets its contract: at place k both fractions are the greatest of the sets passed, and one more set is one comparison.
-use mathlib.Core.Path.{_≡_, refl, sym, _∙_, ap, ap₂}
-use mathlib.Core.Bool.{true}
-use mathlib.Core.Logic.{⊎-elim}
-use mathlib.Core.List.{List}
-use Prim.Native.Nat.{ℕ, _-_, _≤_, _<_}
+-- `largest_ratios` meets its contract: the ratios of all columns are those of the columns of several levels.
+use mathlib.Core.Path.{_≡_, sym, _∙_, ap}
 use native.Mathlib.Omega.{arith}
-use lib.ListN.{length, take}
+use lib.ListN.{take}
 use lib.Seq.{length-take-le}
-use Rattle.exact.specs.Lists.{holds}
-use Rattle.exact.specs.Fractions.{ShortDenominator}
-use Rattle.rules.specs.Plan.{Plan, plan, columns, level, entry}
-use Rattle.sets.specs.Sets.{binom, setAt}
-use Rattle.exact.specs.declared.fractions.Fraction.{Fraction}
-use Rattle.projections.specs.Given.{Projection}
-use Rattle.projections.specs.Projections.{relativeOf}
-use Rattle.sets.proofs.Places.{set-front}
-use Rattle.projections.proofs.Values.{value-short}
-use Rattle.resolution.specs.Resolution.{greater}
-use Rattle.resolution.specs.declared.inner.Ratios.{Ratios}
-use Rattle.resolution.proofs.Walk.{before, before-all, largest-none, held-none, largest-next, held-next, other-next}
-use Rattle.resolution.proofs.Walk.{set-chosen, set-projection, largest-short, held-short}
+use Rattle.rules.specs.Plan.{Plan, plan, level, everyColumn, several}
+use Rattle.sets.specs.Sets.{choose}
+use Rattle.plan.proofs.Several.{several-part, several-few, several-front, several-held}
+use Rattle.projections.proofs.Products.{part-projection}
+use Rattle.resolution.specs.Given.{ratiosOf}
+use Rattle.resolution.proofs.OneLevel.{walk-several}
 use borrow.Author.Needs.{needs}
 use Rattle.resolution.proofs.inner.largest_ratios.Statement.{statement}
 use Rattle.resolution.proofs.inner.largest_ratios.Tie as tie
 
-abbrev Inv-loop : tie.InvT-loop
-Inv-loop levels table runs size column m many largest₀ held₀ k₀ largest held k =
-    let b = before (plan levels table) runs column size in
-    (m ≡ length levels) × (many ≡ binom (length levels) size) × (k ≤ many) × (largest ≡ b k .largest) × (held ≡ b k .held)
+several-levels-requires : tie.Need-several-levels-requires
+several-levels-requires c κs = search needs
 
-abbrev μ-loop : tie.MeasureT-loop
-μ-loop levels table runs size column m many largest₀ held₀ k₀ largest held k = many - k
-
-binomial-requires : tie.Need-binomial-requires Inv-loop μ-loop
-binomial-requires c κs = search needs
-
-loop-holds : tie.Need-loop-holds Inv-loop μ-loop
-loop-holds c =
-    let a = c .before .before .before .before .args in
-    let p = plan (a .levels .now) (a .table .now) in
-    (refl, c .binomial .ensures, omega arith, largest-none p (a .runs .now) (a .column), held-none p (a .runs .now) (a .column))
-
-set-at-requires : tie.Need-set-at-requires Inv-loop μ-loop
-set-at-requires c κs = search needs
-
-array-share-prefix-set : tie.Need-array-share-prefix-set Inv-loop μ-loop
-array-share-prefix-set c = search needs
-
--- the set at place k, lent
-module _ (c : tie.After-set-at Inv-loop μ-loop) where
-  abbrev loop : tie.At-loop Inv-loop μ-loop
-  loop = c .before .before
-
-  abbrev start : tie.Start Inv-loop μ-loop
-  start = loop .before .before .before .before .before
+module _ (f : tie.After-several-levels) where
+  abbrev start : tie.Start
+  start = f .before .before .before .before
 
   abbrev given : Plan
   given = plan (start .args .levels .now) (start .args .table .now)
 
-  abbrev runs : List ℕ
-  runs = start .args .runs .now
+  -- the columns lent are those of several levels
+  lent : take (f .several-levels .result .many) (f .several-levels .result .columns) ≡ several (level given) (everyColumn given)
+  lent = several-front (start .args .levels .now) (f .several-levels .ensures)
 
-  abbrev size : ℕ
-  size = start .args .size
+array-share-prefix-columns : tie.Need-array-share-prefix-columns
+array-share-prefix-columns c = let f = c .before in several-held (start f .args .levels .now) (f .several-levels .ensures)
 
-  abbrev set : List ℕ
-  set = setAt (columns given) size (loop .loop .k)
+slice-aggregate-ratios-of : tie.Need-slice-aggregate-ratios-of
+slice-aggregate-ratios-of c =
+    let f = c .before .before in
+    sym (length-take-le (f .several-levels .result .many) (f .several-levels .result .columns)
+    (several-held (start f .args .levels .now) (f .several-levels .ensures)))
 
-  inside : loop .loop .k < binom (columns given) size
-  inside = omega arith
-
-  lent : take size (c .set-at .result) ≡ set
-  lent = ap (take size) (c .set-at .ensures) ∙ set-front (columns given) size (loop .loop .k) inside
-
-  projection : Projection given set × (1 ≤ length set)
-  projection =
-      set-projection given runs (start .pre .0) size (start .pre .1 .0) set
-      (set-chosen given runs (start .args .column) size (loop .loop .k) inside)
-
-  largest-fits : ShortDenominator (loop .loop .largest)
-  largest-fits =
-      rw (loop .loop .inv .3) (largest-short given runs (start .pre .0) size (start .pre .1 .0) (start .args .column) (loop .loop .k))
-
-  held-fits : ShortDenominator (loop .loop .held)
-  held-fits = rw (loop .loop .inv .4) (held-short given runs (start .pre .0) size (start .pre .1 .0) (start .args .column) (loop .loop .k))
-
-  long : size ≡ length (take size (c .set-at .result))
-  long = sym (length-take-le size (c .set-at .result) (search needs))
-
-slice-aggregate-value : tie.Need-slice-aggregate-value Inv-loop μ-loop
-slice-aggregate-value c = long (c .before)
-
-value-requires : tie.Need-value-requires Inv-loop μ-loop
-value-requires c κs = let s = c .before in (start s .pre .0, rw (lent s) (projection s))
-
--- its ratio
-module _ (c : tie.After-value Inv-loop μ-loop) where
-  ratio : c .value .result ≡ let s = c .before .before in relativeOf (level (given s)) (entry (given s)) (runs s) (set s)
-  ratio = let s = c .before .before in rw (lent s) at (c .value .ensures)
-
-  short : ShortDenominator (c .value .result)
-  short =
-      let s = c .before .before in
-      rw ratio (value-short (given s) (runs s) (set s) (start s .pre .0) (projection s .0) (projection s .1) true)
-
-greater-requires : tie.Need-greater-requires Inv-loop μ-loop
-greater-requires c κs =
-    let s = c .before .before in
-    (largest-fits s, short c)
-
-array-share-prefix-set-2 : tie.Need-array-share-prefix-set-2 Inv-loop μ-loop
-array-share-prefix-set-2 c = search needs
-
-slice-aggregate-holds : tie.Need-slice-aggregate-holds Inv-loop μ-loop
-slice-aggregate-holds c = long (c .before .before .before .before)
-
-holds-requires : tie.Need-holds-requires Inv-loop μ-loop
-holds-requires c κs = search needs
-
--- whether it holds the column
-holding : (c : tie.After-holds Inv-loop μ-loop) →
-    let s = c .before .before .before .before .before in c .holds .result ≡ holds (start s .args .column) (set s)
-holding c = rw (lent (c .before .before .before .before .before)) at (c .holds .ensures)
-
-greater-requires-2 : tie.Need-greater-requires-2 Inv-loop μ-loop
-greater-requires-2 c κs =
-    let v = c .before .before .before .before in
-    let s = v .before .before in
-    (held-fits s, short v)
-
-add-k : tie.Need-add-k Inv-loop μ-loop
-add-k c = omega arith
-
-loop-less : tie.Need-loop-less Inv-loop μ-loop
-loop-less c = omega arith
-
-loop-again : tie.Need-loop-again Inv-loop μ-loop
-loop-again c =
-    let h = c .before in
-    let v = h .before .before .before in
-    let s = v .before .before in
-    let l = loop s .loop in
-    let i = start s .args .column in (
-      refl,
-      loop s .before .binomial .ensures,
-      omega arith,
-      h .before .before .greater .ensures ∙ ap₂ greater (l .inv .3) (ratio v) ∙ sym (largest-next (given s) (runs s) i (size s) (l .k) (inside s)),
-      ⊎-elim
-          (λ w.
-          w .2 ∙ w .1 .ensures ∙ ap₂ greater (l .inv .4) (ratio v)
-          ∙ sym (held-next (given s) (runs s) i (size s) (l .k) (inside s) (sym (holding h) ∙ w .0 .taken)))
-          (λ w. w .1 ∙ l .inv .4 ∙ sym (other-next (given s) (runs s) i (size s) (l .k) (inside s) (sym (holding h) ∙ w .0 .left)))
-          (c .if1 .came),
+ratios-of-requires : tie.Need-ratios-of-requires
+ratios-of-requires c κs =
+    let f = c .before .before in
+    let T = start f .pre .0 in
+    let p = given f in
+    rw (lent f) (
+      (
+        T,
+        (
+          part-projection p (T .sound .level-low) (T .sound .small) (several (level p) (everyColumn p)) (several-part p),
+          several-few p (T .sound .columns-high),
+        ),
+      ),
+      (start f .pre .1 .0, omega (arith, T .sound .columns-high, start f .pre .1 .1)),
     )
 
-abbrev ratiosPair : Fraction → Fraction → Ratios
-ratiosPair x y = record { largest = x; held = y }
-
-returns : tie.Need-returns Inv-loop μ-loop
+returns : tie.Need-returns
 returns c =
-    let l = c .before .loop in
-    let a = c .before .before .before .before .before .before .args in
-    let p = plan (a .levels .now) (a .table .now) in
-    ap₂ ratiosPair (l .inv .3) (l .inv .4) ∙ before-all p (a .runs .now) (a .column) (a .size) (l .k) (omega arith)
+    let f = c .before .before .before in
+    let s = start f in
+    let p = given f in
+    c .ratios-of .ensures
+    ∙ ap (λ cols. ratiosOf p (s .args .runs .now) (choose (s .args .size) cols) (s .args .column)) (lent f)
+    ∙ walk-several p (s .args .runs .now) (s .pre .0 .sound .level-low) (s .args .size) (s .args .column)
 
 pub largest-ratios-spec : {M : Type 1} → statement M
 largest-ratios-spec =
     tie.close
     (tie.spec
-    Inv-loop
-    μ-loop
-    binomial-requires
-    loop-holds
-    set-at-requires
-    array-share-prefix-set
-    slice-aggregate-value
-    value-requires
-    greater-requires
-    array-share-prefix-set-2
-    slice-aggregate-holds
-    holds-requires
-    greater-requires-2
-    add-k
-    loop-less
-    loop-again
+    several-levels-requires
+    array-share-prefix-columns
+    slice-aggregate-ratios-of
+    ratios-of-requires
     returns)

@@ -9,7 +9,8 @@ use Rattle.plan.specs.Good.{Good}
 use Rattle.plan.proofs.Checks.{passed-good}
 use Rattle.words.proofs.Answered.{run-front}
 use Rattle.resolution.specs.Given.{Measured, refusing, ratingOf}
-use Rattle.resolution.proofs.Planned.{column-refused, column-outside, column-passed, good-tabled}
+use Rattle.projections.proofs.Answers.{good-tabled}
+use Rattle.resolution.proofs.Planned.{column-refused, column-outside, column-passed}
 use borrow.Author.Needs.{needs}
 use Rattle.resolution.proofs.inner.rate_plan.Statement.{statement}
 use Rattle.resolution.proofs.inner.rate_plan.Tie as tie
