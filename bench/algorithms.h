@@ -40,6 +40,7 @@ static inline const byte *start_of(Plan plan, long run)
 void every_run(long n, Runs *runs);
 void row_in_c(Plan plan, const Runs *runs, long run, long *row);
 void words_in_c(Plan plan, const Runs *runs, long *words);
+void words_by_rows_in_c(Plan plan, const Runs *runs, long *words);
 void diagonal_in_c(Plan plan, long *diagonal);
 
 /* strikes.c: as bench_strikes */

@@ -62,6 +62,12 @@ static double judged_words(void)
     return ratio_of(times);
 }
 
+/* The same plan against every ordered pair of runs: what visiting each pair once saves. */
+static void time_words_by_rows(void)
+{
+    print_timed("words, C by rows", word_of_library, word_by_rows_of_c);
+}
+
 /* ---- a strike against a recount */
 
 /* One strike or reinstatement: what many rounds take, less the opening. */
@@ -154,6 +160,7 @@ int main(int count, char **arguments)
     time_words(16, 5);
     time_words(64, 12);
     double ratio = judged_words();
+    time_words_by_rows();
     time_strikes(64, 12);
     time_strikes(256, 24);
     time_tables();

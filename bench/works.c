@@ -70,6 +70,15 @@ long word_of_c(void)
     return words[2];
 }
 
+long word_by_rows_of_c(void)
+{
+    long words[MOST_COLUMNS];
+    Runs runs;
+    every_run(n, &runs);
+    words_by_rows_in_c(plan(), &runs, words);
+    return words[2];
+}
+
 /* ---- strikes, and a recount */
 
 long strikes_of_library(void)

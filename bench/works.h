@@ -13,10 +13,11 @@ void make_any(long runs, long columns);
 /* Two levels and strength 2, with its text. */
 void make_even(long runs, long columns);
 
-/* The word of length 3: of all runs; of all but run 0, which was struck after so
- * many rounds; and of all but run 0, counted anew.
+/* The word of length 3: of all runs, in C also by every ordered pair of them; of
+ * all but run 0, which was struck after so many rounds; and of all but run 0,
+ * counted anew.
  */
-long word_of_library(void), word_of_c(void);
+long word_of_library(void), word_of_c(void), word_by_rows_of_c(void);
 long strikes_of_library(void), strikes_of_c(void);
 long recount_of_library(void), recount_of_c(void);
 

@@ -33,6 +33,11 @@ from-add a zero k = rw (zero-add, add-zero)
 from-add a (suc n) k =
     rw (suc-add, add-suc) (ap (λ l. a ∷ l) (from-add (suc a) n k ∙ ap (λ j. from (suc a) n ++ from j k) (suc-add a n)))
 
+pub from-at : (a n k d : ℕ) → k < n → getD (from a n) k d ≡ a + k
+from-at a zero k d h = absurd (omega arith)
+from-at a (suc n) zero d h = sym (add-zero a)
+from-at a (suc n) (suc k) d h = from-at (suc a) n k d (omega arith) ∙ suc-add a k ∙ sym (add-suc a k)
+
 -- one number more, as a loop's index steps
 pub from-snoc : (a n : ℕ) → from a (n + 1) ≡ from a n ++ (a + n) ∷ []
 from-snoc a n = from-add a n 1

@@ -16,14 +16,14 @@ use Rattle.words.specs.Words.{word, rowSum, diagonal}
 use Rattle.words.specs.Given.{Row}
 use Rattle.words.specs.Answers.{wordList, rowList, diagonalList}
 use Rattle.words.proofs.Totals.{by-length-row}
-use Rattle.words.proofs.OfPlan.{row-small, word-small, diagonal-small}
+use Rattle.words.proofs.OfPlan.{sound-levels, row-small, word-small, diagonal-small}
 use Rattle.words.proofs.Answered.{word-at}
 use Rattle.held.specs.declared.Held.{Held}
 use Rattle.held.specs.declared.inner.Standing.{Standing}
 use Rattle.held.specs.Held.{IsHeld, marksIn, planIn, standingIn, remarked}
 use Rattle.held.specs.Given.{standingOf, Changes, factorOf, changed}
 use Rattle.held.proofs.History.{words-standing}
-use Rattle.held.proofs.Sizes.{filled, sized, levels-sound}
+use Rattle.held.proofs.Sizes.{filled, sized}
 use Rattle.held.proofs.Update.{words-changed}
 
 -- ---- the levels and the entries, as the fronts of their rooms
@@ -114,7 +114,7 @@ module _ {h : Held} {f : ℕ} {b : Bool} (C : Changes h f b) where
         factor-small b,
         (
           rw (words-standing (C .held)) (words-small (planIn h) (standingIn h) S),
-          (row-fits (planIn h) (standingIn h) S f F, diagonal-fits (plan (planIn h .levels) []) [] (levels-sound (planIn h) (standingIn h) S)),
+          (row-fits (planIn h) (standingIn h) S f F, diagonal-fits (plan (planIn h .levels) []) [] (sound-levels (planIn h) (standingIn h) S)),
         ),
       )
 

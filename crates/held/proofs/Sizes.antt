@@ -6,7 +6,7 @@ use native.Mathlib.Omega.{arith}
 use lib.ListN.{length, length-append, length-replicate}
 use Rattle.exact.specs.Lists.{filledTo}
 use Rattle.exact.proofs.Numbers.{length-from, mul-below}
-use Rattle.rules.specs.Plan.{Plan, plan, columns, runs, everyRun}
+use Rattle.rules.specs.Plan.{Plan, columns, runs, everyRun}
 use Rattle.plan.specs.Good.{Sound}
 use Rattle.plan.proofs.Sound.{run-mem, good-sound}
 use Rattle.words.proofs.OfPlan.{sound-run}
@@ -26,19 +26,6 @@ some-sound p rs ss S fewer among = record {
   numbered = λ f m. S .numbered f (among f m);
   inside = λ f m. S .inside f (among f m);
   below = λ f m. S .below f (among f m);
-}
-
--- the levels alone
-pub levels-sound : (p : Plan) (rs : List ℕ) → Sound p rs → Sound (plan (p .levels) []) []
-levels-sound p rs S = record {
-  columns-high = S .columns-high;
-  level-low = S .level-low;
-  level-high = S .level-high;
-  small = S .small;
-  few = omega arith;
-  numbered = λ f m. absurd (List·Memᴰ·not-nil m);
-  inside = λ f m. absurd (List·Memᴰ·not-nil m);
-  below = λ f m. absurd (List·Memᴰ·not-nil m);
 }
 
 pub filled : {A : Type 0} (n : ℕ) (d : A) (xs : List A) → length xs ≤ n → length (filledTo n d xs) ≡ n

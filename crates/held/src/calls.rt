@@ -55,8 +55,7 @@ fn opened(levels: &[u8], table: &[u8]) -> Held
 {
     let columns = levels.len();
     let runs = table.len() / columns;
-    let numbers = plan::inner::every_run(runs);
-    let words = words::inner::words(levels, table, &numbers[..runs]);
+    let words = words::inner::words_of_plan(levels, table);
     let mut held_levels = [0u8; 24];
     copy(levels, &mut held_levels);
     let mut entries = [0u8; 6144];

@@ -1,15 +1,20 @@
 -- Every run of a good plan, with what the routines over some of its runs are given.
-use mathlib.Core.Path.{_≡_}
+use mathlib.Core.Path.{_≡_, _∙_}
 use mathlib.Core.List.{List·Memᴰ, map}
 use Prim.Native.Nat.{ℕ, _<_}
+use native.Mathlib.Nat.{zero-add}
 use native.Mathlib.Omega.{arith}
-use Rattle.exact.proofs.Numbers.{length-from, from-mem, mem-from, map-places, row-within}
+use lib.ListN.{getD}
+use Rattle.exact.proofs.Numbers.{length-from, from-at, from-mem, mem-from, map-places, row-within}
 use Rattle.rules.specs.Plan.{Plan, columns, runs, level, everyColumn, everyRun}
 use Rattle.plan.specs.Good.{Good, Sound}
 
 module _ (p : Plan) where
   pub run-mem : (f : ℕ) → f < runs p → List·Memᴰ f (everyRun p)
   run-mem f h = from-mem f 0 (runs p) (omega arith) (omega arith)
+
+  pub run-at : (f : ℕ) → f < runs p → getD (everyRun p) f 0 ≡ f
+  run-at f h = from-at 0 (runs p) f 0 h ∙ zero-add f
 
   pub mem-run : (f : ℕ) → List·Memᴰ f (everyRun p) → f < runs p
   mem-run f m = omega (arith, mem-from 0 (runs p) m)

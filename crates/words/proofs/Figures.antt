@@ -3,19 +3,27 @@ use mathlib.Core.Path.{_≡_, refl}
 use mathlib.Core.List.{List, [], _∷_, map}
 use Prim.Native.Nat.{ℕ}
 use lib.IntN.{ℤ, pos, negsuc}
+use lib.ListN.{length, take}
 use Rattle.exact.specs.Lists.{from}
 use Rattle.rules.specs.Plan.{Plan, plan, columns, level, entry, everyColumn, everyRun}
-use Rattle.words.specs.Words.{score, wordOf, word, rowSum}
+use Rattle.words.specs.Words.{score, wordOf, word, pairSum, rowSum}
+use Rattle.words.specs.Given.{bothOrders}
+use Rattle.words.proofs.Laws.{once}
 
--- of the runs rs of a plan: W_1 to W_m, or the row sums of length j of each of the runs
+-- of the runs rs of a plan: W_1 to W_m, the row sums of length j of each of the runs, or the sums with each pair of different runs
+-- once; and of such sums those with both orders of each pair and n runs paired with themselves
 data Question : Type 0 where
   words : Plan → List ℕ → Question
   rowSums : Plan → List ℕ → ℕ → Question
+  pairsOnce : Plan → List ℕ → Question
+  inBothOrders : ℕ → List ℤ → List ℤ → Question
 
 ask : Question → List ℤ
-unfolding score wordOf word rowSum
+unfolding score wordOf word rowSum pairSum bothOrders
 ask (words p rs) = map (word (level p) (entry p) rs (everyColumn p)) (from 1 (columns p))
 ask (rowSums p rs j) = map (rowSum (level p) (entry p) rs (everyColumn p) j) rs
+ask (pairsOnce p rs) = map (λ j. once (pairSum (level p) (entry p) (everyColumn p) j) rs) (from 1 (columns p))
+ask (inBothOrders n own sums) = take (length sums) (bothOrders n own sums)
 
 record Figure : Type 0 where
   question : Question
@@ -61,6 +69,9 @@ figures =
     -- not of the paper: the column of one level adds to no word
     ∷ is (words graded (everyRun graded)) (pos 1 ∷ pos 8 ∷ pos 0 ∷ [])
     ∷ is (rowSums graded (everyRun graded) 2) (pos 2 ∷ pos 2 ∷ pos 4 ∷ [])
+    -- nor this: the words of the first plan as they are added up, E being 3 and 2
+    ∷ is (pairsOnce listed (everyRun listed)) (negsuc 3 ∷ pos 1 ∷ [])
+    ∷ is (inBothOrders 3 (pos 3 ∷ pos 2 ∷ []) (negsuc 3 ∷ pos 1 ∷ [])) (pos 1 ∷ pos 8 ∷ [])
     ∷ []
 
 words-figures : map (λ c. ask (c .question)) figures ≡ map (λ c. c .answer) figures

@@ -8,5 +8,6 @@ pub mod Columns
 pub mod Marked
 pub mod Totals
 pub mod OfPlan
+pub mod Once
 pub mod Answered
 pub mod Figures

@@ -1,7 +1,7 @@
 -- The laws, of some runs of a plan.
 use mathlib.Core.Path.{_≡_, refl, sym}
 use mathlib.Core.Bool.{Bool, cond}
-use mathlib.Core.List.{List, [], _∷_, List·Memᴰ, List·Memᴰ·head, List·Memᴰ·eq-of-singleton}
+use mathlib.Core.List.{List, [], _∷_, List·Memᴰ, List·Memᴰ·head, List·Memᴰ·not-nil, List·Memᴰ·eq-of-singleton}
 use Prim.Native.Nat.{ℕ, _*_, _^_, _≤_, _<_}
 use native.Mathlib.Nat.{le-trans, mul-le-mul}
 use native.Mathlib.Omega.{arith}
@@ -10,12 +10,12 @@ use lib.ListN.{length, take, drop, replicate}
 use lib.Signed.{_≤ℤ_}
 use Rattle.exact.specs.Lists.{product}
 use Rattle.exact.proofs.Numbers.{length-from, mem-from, mul-below, map-from-cong}
-use Rattle.rules.specs.Plan.{Plan, columns, level, entry, everyColumn, mostRuns, highestProduct}
+use Rattle.rules.specs.Plan.{Plan, plan, columns, level, entry, everyColumn, mostRuns, highestProduct}
 use Rattle.plan.specs.Good.{Sound}
 use Rattle.words.specs.Words.{scoreAt, pairSum, rowSum, word, diagonal}
 use Rattle.words.specs.declared.Sums.{Sums}
-use Rattle.words.specs.Answers.{byLength, zeros, pairList, rowList, rowsByRun, wordList, diagonalList}
-use Rattle.words.proofs.Laws.{pair-esp, diagonal-esp, row-pairs, word-rows, word-above}
+use Rattle.words.specs.Answers.{byLength, zeros, pairList, rowList, rowsByRun, diagonalList}
+use Rattle.words.proofs.Laws.{pair-esp, diagonal-esp, row-pairs, word-above}
 use Rattle.words.proofs.Bound.{BelowLevels, score-bound, diagonal-bound, pair-bound, row-bound, word-bound}
 use Rattle.words.proofs.Positive.{word-nonneg}
 use Rattle.words.proofs.Columns.{soFar, level-product}
@@ -40,18 +40,6 @@ module _ (p : Plan) where
   pub row-totals : (rs : List ℕ) (f : ℕ) → totals (ofPair f) rs ≡ rowList p rs f
   unfolding totals rowList
   row-totals rs f = map-from-cong 1 24 (λ j. sym (row-pairs (level p) (entry p) rs (everyColumn p) j f))
-
-  -- what run f adds to the word of length j
-  abbrev pub ofRow : List ℕ → ℕ → ℕ → ℤ
-  ofRow rs j f = rowSum (level p) (entry p) rs (everyColumn p) j f
-
-  pub row-by-length : (rs : List ℕ) (f : ℕ) → rowList p rs f ≡ byLength (λ j. ofRow rs j f)
-  unfolding rowList
-  row-by-length rs f = refl
-
-  pub word-totals : (rs : List ℕ) → totals (ofRow rs) rs ≡ wordList p rs
-  unfolding totals wordList
-  word-totals rs = map-from-cong 1 24 (λ j. sym (word-rows (level p) (entry p) rs (everyColumn p) j))
 
   -- the level of column i, less one
   abbrev pub lessOne : ℕ → ℤ
@@ -98,6 +86,19 @@ module _ (p : Plan) (rs : List ℕ) (S : Sound p rs) where
 
   pub sound-run : (f : ℕ) → List·Memᴰ f rs → Sound p (f ∷ [])
   sound-run f m = sound-some (f ∷ []) (omega arith) (λ g n. rw (List·Memᴰ·eq-of-singleton n) m)
+
+  -- the levels alone
+  pub sound-levels : Sound (plan (p .levels) []) []
+  sound-levels = record {
+    columns-high = S .columns-high;
+    level-low = S .level-low;
+    level-high = S .level-high;
+    small = S .small;
+    few = omega arith;
+    numbered = λ f m. absurd (List·Memᴰ·not-nil m);
+    inside = λ f m. absurd (List·Memᴰ·not-nil m);
+    below = λ f m. absurd (List·Memᴰ·not-nil m);
+  }
 
   pub row-small : (f : ℕ) → Sound p (f ∷ []) → (j : ℕ) → natAbs (rowSum (level p) (entry p) rs (everyColumn p) j f) ≤ mostRuns * highestProduct
   row-small f F j =

@@ -1,15 +1,16 @@
--- Sums over the runs so far, for each word length: a row over its pairs, the words over the rows.
+-- Sums over the runs so far, for each word length: a row over its pairs.
 use mathlib.Core.Path.{_≡_, refl, sym, _∙_, ap}
 use mathlib.Core.List.{List, [], _∷_, _++_, List·Memᴰ}
-use Prim.Native.Nat.{ℕ, _+_, _*_, _≤_, _<_}
+use Prim.Native.Nat.{ℕ, _+_, _-_, _*_, _≤_, _<_}
 use native.Mathlib.Decide.{decLt}
 use native.Mathlib.Nat.{le-trans, mul-le-mul-right}
 use native.Mathlib.Numerals.{add-one}
 use native.Mathlib.Omega.{arith}
 use lib.ListN.{length, getD, take, length-take, List·getD-eq-default}
-use lib.Seq.{take-suc}
-use lib.IntN.{ℤ, pos, natAbs, _+ℤ_, +ℤ-idl, +ℤ-idr}
+use lib.Seq.{ext-getD, take-suc}
+use lib.IntN.{ℤ, pos, natAbs, _+ℤ_, +ℤ-idl, +ℤ-idr, +ℤ-assoc}
 use Rattle.exact.specs.Lists.{sum}
+use Rattle.exact.proofs.Order.{natAbs-+}
 use Rattle.exact.proofs.Sums.{sum-++}
 use Rattle.exact.proofs.Members.{take-mem}
 use Rattle.exact.proofs.Numbers.{length-map-from, map-from-at, map-from-cong}
@@ -33,6 +34,27 @@ added-by-length F G = refl
 
 pub added-zeros : (F : ℕ → ℤ) → added zeros (byLength F) ≡ byLength F
 added-zeros F = added-by-length (λ j. pos 0) F ∙ map-from-cong 1 mostColumns (λ j. +ℤ-idl (F j))
+
+-- the number of a row for length j
+abbrev at : List ℤ → ℕ → ℤ
+at row j = getD row (j - 1) (pos 0)
+
+pub added-none : (row : List ℤ) → length row ≡ mostColumns → added row zeros ≡ row
+unfolding added
+added-none row long =
+    map-from-cong 1 mostColumns (λ j. +ℤ-idr (at row j))
+    ∙ ext-getD (pos 0) (byLength (at row)) row (length-map-from (at row) 1 mostColumns ∙ sym long)
+    (λ k h. map-from-at (at row) 1 mostColumns k (pos 0) (omega (arith, length-map-from (at row) 1 mostColumns))
+    ∙ ap (λ i. getD row i (pos 0)) (let e : 1 + k - 1 ≡ k = omega arith in e))
+
+pub added-assoc : (row more most : List ℤ) → added (added row more) most ≡ added row (added more most)
+unfolding added
+added-assoc row more most = map-from-cong 1 mostColumns (λ j. +ℤ-assoc (at row j) (at more j) (at most j))
+
+pub added-row : (row more : List ℤ) (b c : ℕ) → Row b row → Row c more → Row (b + c) (added row more)
+unfolding added
+added-row row more b c B C =
+    by-length-row (λ j. at row j +ℤ at more j) (b + c) (λ j. omega (arith, natAbs-+ (at row j) (at more j), B .small (j - 1), C .small (j - 1)))
 
 -- ---- summed over some runs, where run g gives F j g for length j
 

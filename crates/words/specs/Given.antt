@@ -37,3 +37,7 @@ withColumn x row = getD row 0 (pos 0) ∷ map (λ k. getD row (k + 1) (pos 0) +�
 -- two rows added, length by length
 unfoldable pub added : List ℤ → List ℤ → List ℤ
 added row more = map (λ k. getD row k (pos 0) +ℤ getD more k (pos 0)) (from 0 mostColumns)
+
+-- sums with each pair in one order, made sums with both orders of it and with n further pairs that add `own` each
+unfoldable pub bothOrders : ℕ → List ℤ → List ℤ → List ℤ
+bothOrders n own once = map (λ k. pos 2 *ℤ getD once k (pos 0) +ℤ pos n *ℤ getD own k (pos 0)) (from 0 mostColumns)

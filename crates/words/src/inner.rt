@@ -1,14 +1,15 @@
-// For our own crates: the words of some runs of a plan, each named by its number. The runs that stand are such a list.
+// For our own crates: row sums over some runs of a plan, each named by its number, as the runs that stand are; and the words of all its runs.
 use crate::Sums;
 use exact::signed;
 ghost use mathlib.Core.Path.{_≡_};
 ghost use mathlib.Core.List.{[], _∷_};
-ghost use Prim.Native.Nat.{_≤_, _^_};
+ghost use Prim.Native.Nat.{_+_, _≤_, _<_, _^_};
 ghost use lib.IntN.{natAbs};
-ghost use Rattle.rules.specs.Plan.{plan, everyRun, highestLevel};
+ghost use lib.ListN.{drop};
+ghost use Rattle.rules.specs.Plan.{plan, runs, everyRun, mostRuns, highestLevel};
 ghost use Rattle.plan.specs.Good.{Good, Sound};
 ghost use Rattle.words.specs.Words.{score};
-ghost use Rattle.words.specs.Given.{Row, OfColumns, Gains, gained, withColumn, added};
+ghost use Rattle.words.specs.Given.{Row, OfColumns, Gains, gained, withColumn, added, bothOrders};
 ghost use Rattle.words.specs.Answers.{pairList, rowList, rowsByRun, wordList, diagonalList};
 
 // The score of a column: its level less one where two entries agree, and -1 where they differ.
@@ -47,7 +48,7 @@ pub(crate) fn extend(sums: &mut [i64; 25], score: i64, columns: usize)
     }
 }
 
-// The sums of a pair, or of a row, go into those of a row or of all.
+// The sums of a pair go into a total.
 pub(crate) fn add_to(total: &mut [i64; 24], more: &[i64])
     requires { ⌜ Row (2 ^ 61) (now total) × Row (2 ^ 61) (now more) ⌝ }
     ensures { λ _. ⌜ now (total .exit) ≡ added (now (total .entry)) (now (more .entry)) ⌝ }
@@ -98,30 +99,50 @@ pub fn rows(levels: &[u8], table: &[u8], runs: &[usize]) -> [Sums; 256]
     rows
 }
 
-// The words: the row sums of all runs, added up.
-pub fn words(levels: &[u8], table: &[u8], runs: &[usize]) -> [i64; 24]
-    requires { ⌜ Sound (plan (now levels) (now table)) (now runs) ⌝ }
-    ensures { λ r. ⌜ r ≡ wordList (plan (now (levels .entry)) (now (table .entry))) (now (runs .entry)) ⌝ }
+// What the pairs of run f with the later runs add to the words goes into the total.
+fn add_later(total: &mut [i64; 24], levels: &[u8], table: &[u8], f: usize)
+    requires { ⌜ Row (2 ^ 60) (now total) × (Good (plan (now levels) (now table)) × (f < runs (plan (now levels) (now table)))) ⌝ }
+    ensures { λ _. ⌜ (let p = plan (now (levels .entry)) (now (table .entry)) in
+        now (total .exit) ≡ added (now (total .entry)) (rowList p (drop (f + 1) (everyRun p)) f)) ⌝ }
 {
-    let mut total = [0i64; 24];
-    for k in 0..runs.len() {
-        let v = row(levels, table, runs, runs[k]);
-        let sums = v.sums;
-        add_to(&mut total, &sums);
+    let n = table.len() / levels.len();
+    for g in f + 1..n {
+        let sums = pair(levels, table, f, g);
+        add_to(total, &sums[1..]);
     }
-    total
 }
 
-// The words of an accepted plan, and its row sums: of every run.
+// The total of each pair in one order becomes that in both, and each of the runs has a pair with itself.
+fn both_orders(total: &mut [i64; 24], own: &[i64], runs: usize)
+    requires { ⌜ Row (2 ^ 60) (now total) × (Row (2 ^ 32) (now own) × (runs ≤ mostRuns)) ⌝ }
+    ensures { λ _. ⌜ now (total .exit) ≡ bothOrders runs (now (own .entry)) (now (total .entry)) ⌝ }
+{
+    let n = signed::of_size(runs);
+    for j in 0..24 {
+        let once = total[j];
+        let half = signed::add(once, signed::mul(n, own[j]));
+        total[j] = signed::add(half, once);
+    }
+}
+
+// The words of an accepted plan: each pair of different runs visited once and counted double, at the end the pairs of a run with itself.
 pub fn words_of_plan(levels: &[u8], table: &[u8]) -> [i64; 24]
     requires { ⌜ Good (plan (now levels) (now table)) ⌝ }
     ensures { λ r. ⌜ (let p = plan (now (levels .entry)) (now (table .entry)) in r ≡ wordList p (everyRun p)) ⌝ }
 {
     let n = table.len() / levels.len();
-    let runs = plan::inner::every_run(n);
-    words(levels, table, &runs[..n])
+    let mut total = [0i64; 24];
+    let mut f = n;
+    while 0 < f {
+        f -= 1;
+        add_later(&mut total, levels, table, f);
+    }
+    let own = diagonal(levels);
+    both_orders(&mut total, &own, n);
+    total
 }
 
+// The row sums of an accepted plan.
 pub fn rows_of_plan(levels: &[u8], table: &[u8]) -> [Sums; 256]
     requires { ⌜ Good (plan (now levels) (now table)) ⌝ }
     ensures { λ r. ⌜ (let p = plan (now (levels .entry)) (now (table .entry)) in r ≡ rowsByRun p (everyRun p)) ⌝ }

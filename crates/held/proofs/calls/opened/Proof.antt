@@ -1,12 +1,8 @@
 -- `held::calls::opened` meets its contract: each part is copied, and the words are those of every run.
-use mathlib.Core.Path.{sym}
 use native.Mathlib.Omega.{arith}
-use lib.Seq.{length-take-le}
 use Rattle.exact.proofs.Numbers.{mul-below}
 use Rattle.exact.proofs.Rooms.{into-blank}
 use Rattle.rules.specs.Plan.{plan, columns, runs, mostColumns, mostRuns}
-use Rattle.plan.proofs.Sound.{good-sound}
-use Rattle.words.proofs.Answered.{run-front}
 use Rattle.held.specs.Held.{heldOf}
 use Rattle.held.proofs.Standing.{all-stand}
 use borrow.Author.Needs.{needs}
@@ -16,22 +12,8 @@ use Rattle.held.proofs.calls.opened.Tie as tie
 div-runs : tie.Need-div-runs
 div-runs c = search needs
 
-every-run-requires : tie.Need-every-run-requires
-every-run-requires c κs = search needs
-
-array-share-prefix-numbers : tie.Need-array-share-prefix-numbers
-array-share-prefix-numbers c = search needs
-
-slice-aggregate-words : tie.Need-slice-aggregate-words
-slice-aggregate-words c =
-    let s = c .before .before .before .before in
-    sym (length-take-le _ _ (omega arith))
-
-words-requires : tie.Need-words-requires
-words-requires c κs =
-    let s = c .before .before .before .before in
-    let p = plan (s .args .levels .now) (s .args .table .now) in
-    rw (c .before .every-run .ensures, run-front (runs p)) (good-sound p (s .pre))
+words-of-plan-requires : tie.Need-words-of-plan-requires
+words-of-plan-requires c κs = search needs
 
 slice-aggregate-copy : tie.Need-slice-aggregate-copy
 slice-aggregate-copy c = search needs
@@ -44,7 +26,7 @@ slice-aggregate-copy-2 c = search needs
 
 copy-requires-2 : tie.Need-copy-requires-2
 copy-requires-2 c κs =
-    let s = c .before .before .before .before .before .before .before .before .before in
+    let s = c .before .before .before .before .before .before .before in
     let p = plan (s .args .levels .now) (s .args .table .now) in
     let G = s .pre in
     omega (arith, G .size, mul-below (runs p) (columns p) mostRuns mostColumns (G .runs-high) (G .columns-high))
@@ -57,7 +39,7 @@ unfolding heldOf
 returns c =
     let copied = c .before .before in
     let worded = copied .before .before .before .before .before in
-    let s = worded .before .before .before .before .before in
+    let s = worded .before .before .before in
     let levels = s .args .levels .now in
     let table = s .args .table .now in
     let n = runs (plan levels table) in
@@ -67,9 +49,7 @@ returns c =
       into-blank table 6144 0,
       copied .before .before .before .copy .ensures,
       into-blank levels mostColumns 0,
-      worded .words .ensures,
-      worded .before .before .every-run .ensures,
-      run-front n,
+      worded .words-of-plan .ensures,
       all-stand n,
     )
 
@@ -78,10 +58,7 @@ opened-spec =
     tie.close
     (tie.spec
     div-runs
-    every-run-requires
-    array-share-prefix-numbers
-    slice-aggregate-words
-    words-requires
+    words-of-plan-requires
     slice-aggregate-copy
     copy-requires
     slice-aggregate-copy-2

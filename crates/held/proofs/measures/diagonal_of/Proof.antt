@@ -1,6 +1,7 @@
 -- `held::measures::diagonal_of` meets its contract: the part lent are the levels of the plan.
 use Rattle.held.specs.Held.{planIn, standingIn}
-use Rattle.held.proofs.Sizes.{sized, levels-sound}
+use Rattle.words.proofs.OfPlan.{sound-levels}
+use Rattle.held.proofs.Sizes.{sized}
 use Rattle.held.proofs.Lent.{levels-lent, front}
 use borrow.Author.Needs.{needs}
 use Rattle.held.proofs.measures.diagonal_of.Statement.{statement}
@@ -15,7 +16,7 @@ slice-aggregate-diagonal c = front _ (levels-lent (c .before .before .pre))
 diagonal-requires : tie.Need-diagonal-requires
 diagonal-requires c κs =
     let s = c .before .before in
-    levels-sound (planIn (s .args .held)) (standingIn (s .args .held)) (sized (s .pre) .sound)
+    sound-levels (planIn (s .args .held)) (standingIn (s .args .held)) (sized (s .pre) .sound)
 
 returns : tie.Need-returns
 returns c = search needs

@@ -1,48 +1,116 @@
--- `words::inner::words_of_plan` meets its contract: what it lends are the numbers of all runs.
+-- `words::inner::words_of_plan` meets its contract: from the last run down, the total is that over each pair of different runs from run f on once.
 use borrow.Author.Needs.{needs}
-use mathlib.Core.Path.{_≡_, sym, _∙_, ap, subst⁻¹}
-use lib.ListN.{length, take}
+use mathlib.Core.Path.{_≡_, sym, _∙_, ap, ap₂}
+use Prim.Native.Nat.{_+_, _-_, _^_, _≤_, _<_}
+use native.Mathlib.Omega.{arith}
+use lib.ListN.{drop}
+use lib.Seq.{drop-length}
 use Rattle.exact.proofs.Numbers.{length-from}
-use Rattle.rules.specs.Plan.{Plan, plan, runs, everyRun}
+use Rattle.rules.specs.Plan.{Plan, plan, runs, level, everyColumn, everyRun}
 use Rattle.plan.specs.Good.{Sound}
-use Rattle.plan.proofs.Sound.{good-sound}
-use Rattle.words.specs.Answers.{wordList}
-use Rattle.words.proofs.Answered.{run-front}
+use Rattle.plan.proofs.Sound.{run-at, good-sound}
+use Rattle.words.specs.Words.{diagonal}
+use Rattle.words.specs.Given.{added, bothOrders}
+use Rattle.words.specs.Answers.{rowList, diagonalList}
+use Rattle.words.proofs.Totals.{by-length-row}
+use Rattle.words.proofs.OfPlan.{sound-levels, diagonal-by-length, diagonal-small}
+use Rattle.words.proofs.Once.{onceList, once-none, once-turn, once-row, word-once}
 use Rattle.words.proofs.inner.words_of_plan.Statement.{statement}
 use Rattle.words.proofs.inner.words_of_plan.Tie as tie
 
-div-n : tie.Need-div-n
+abbrev Inv-loop : tie.InvT-loop
+Inv-loop levels table n total₀ f₀ total f =
+    let p = plan levels table in (f ≤ runs p) × (total ≡ onceList p (drop f (everyRun p)))
+
+abbrev μ-loop : tie.MeasureT-loop
+μ-loop levels table n total₀ f₀ total f = f
+
+div-n : tie.Need-div-n Inv-loop μ-loop
 div-n c = search needs
 
-every-run-requires : tie.Need-every-run-requires
-every-run-requires c κs = search needs
+loop-holds : tie.Need-loop-holds Inv-loop μ-loop
+loop-holds c =
+    let s = c .before .before in let p = plan (s .args .levels .now) (s .args .table .now) in
+    (omega arith, sym (ap (onceList p) (ap (λ n. drop n (everyRun p)) (sym (length-from 0 (runs p))) ∙ drop-length (everyRun p)) ∙ once-none p))
 
-array-share-prefix-runs : tie.Need-array-share-prefix-runs
-array-share-prefix-runs c = search needs
+sub-f : tie.Need-sub-f Inv-loop μ-loop
+sub-f c = omega arith
 
-module _ (c : tie.After-runs) where
+-- the plan, and its runs
+module _ (l : tie.At-loop Inv-loop μ-loop) where
+  abbrev start : tie.Start Inv-loop μ-loop
+  start = l .before .before .before
+
   abbrev given : Plan
-  given = plan (c .before .before .before .before .args .levels .now) (c .before .before .before .before .args .table .now)
+  given = plan (start .args .levels .now) (start .args .table .now)
 
-  lent : take (runs given) (c .before .every-run .result) ≡ everyRun given
-  lent = ap (take (runs given)) (c .before .every-run .ensures) ∙ run-front (runs given)
+  sound : Sound given (everyRun given)
+  sound = good-sound given (start .pre)
 
-slice-aggregate-words : tie.Need-slice-aggregate-words
-slice-aggregate-words c = sym (ap length (lent c) ∙ length-from 0 (runs (given c)))
+add-later-requires : tie.Need-add-later-requires Inv-loop μ-loop
+add-later-requires c κs =
+    let l = c .before .before in
+    (rw (l .loop .inv .1) (once-row (given l) (everyRun (given l)) (sound l) (l .loop .f)), (start l .pre, omega (arith, l .loop .inv .0)))
 
-words-requires : tie.Need-words-requires
-words-requires c κs = subst⁻¹ (Sound (given c)) (lent c) (good-sound (given c) (c .before .before .before .before .pre))
+loop-less : tie.Need-loop-less Inv-loop μ-loop
+loop-less c = omega arith
 
-returns : tie.Need-returns
-returns c = c .words .ensures ∙ ap (wordList (given (c .before))) (lent (c .before))
+loop-again : tie.Need-loop-again Inv-loop μ-loop
+loop-again c =
+    let l = c .before .before .before in let p = given l in let rs = everyRun p in
+    let h : 0 < l .loop .f = omega arith in
+    let e : l .loop .f - 1 + 1 ≡ l .loop .f = omega arith in (
+      omega arith,
+      c .add-later .ensures
+          ∙ ap₂ added (l .loop .inv .1)
+          (ap (λ k. rowList p (drop k rs) (l .loop .f - 1)) e
+          ∙ ap (rowList p (drop (l .loop .f) rs)) (sym (run-at p (l .loop .f - 1) (omega (arith, l .loop .inv .0)))))
+          ∙ once-turn p rs (l .loop .f) h (omega (arith, length-from 0 (runs p), l .loop .inv .0)),
+    )
+
+diagonal-requires : tie.Need-diagonal-requires Inv-loop μ-loop
+diagonal-requires c κs = let l = c .before in sound-levels (given l) (everyRun (given l)) (sound l)
+
+slice-aggregate-both-orders : tie.Need-slice-aggregate-both-orders Inv-loop μ-loop
+slice-aggregate-both-orders c = search needs
+
+-- E_j, for each length: of the levels alone
+own : (c : tie.After-diagonal Inv-loop μ-loop) → let l = c .before .before in c .diagonal .result ≡ diagonalList (given l)
+unfolding diagonalList
+own c = c .diagonal .ensures
+
+both-orders-requires : tie.Need-both-orders-requires Inv-loop μ-loop
+both-orders-requires c κs =
+    let d = c .before .before in let l = d .before .before in let p = given l in (
+      rw (l .loop .inv .1) (once-row p (everyRun p) (sound l) (l .loop .f)),
+      (
+        rw (own d, diagonal-by-length p) (by-length-row (diagonal (level p) (everyColumn p)) (2 ^ 32) (λ j. omega (arith, diagonal-small p (everyRun p) (sound l) j))),
+        omega (arith, start l .pre .runs-high),
+      ),
+    )
+
+returns : tie.Need-returns Inv-loop μ-loop
+returns c =
+    let d = c .before .before .before in let l = d .before .before in let p = given l in
+    let z : l .loop .f ≡ 0 = omega arith in
+    c .both-orders .ensures
+    ∙ ap₂ (bothOrders (runs p)) (own d) (l .loop .inv .1 ∙ ap (λ k. onceList p (drop k (everyRun p))) z)
+    ∙ ap (λ n. bothOrders n (diagonalList p) (onceList p (everyRun p))) (sym (length-from 0 (runs p)))
+    ∙ word-once p (everyRun p)
 
 pub words-of-plan-spec : {M : Type 1} → statement M
 words-of-plan-spec =
     tie.close
     (tie.spec
+    Inv-loop
+    μ-loop
     div-n
-    every-run-requires
-    array-share-prefix-runs
-    slice-aggregate-words
-    words-requires
+    loop-holds
+    sub-f
+    add-later-requires
+    loop-less
+    loop-again
+    diagonal-requires
+    slice-aggregate-both-orders
+    both-orders-requires
     returns)

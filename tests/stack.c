@@ -1,0 +1,57 @@
+/* How much stack the words of the largest plan use: the call is made on a
+ * stack of our own, painted before it, and the paint that is left is counted.
+ * Prints the bytes, and the exit status is not 0 where they are 2,048 or more.
+ */
+#include "crumbchorus.h"
+
+int printf(const char *format, ...);
+
+enum { COLUMNS = 24, RUNS = 256, ROOM = 1 << 16, LIMIT = 2048 };
+
+static uint8_t levels[COLUMNS], table[RUNS * COLUMNS];
+static uint8_t room[ROOM] __attribute__((aligned(16)));
+static const uint8_t paint = 0xA5;
+static int64_t word;
+
+/* Column i is the parity of the bits that the run's number and i + 1 share. */
+static void make_plan(void)
+{
+    for (int i = 0; i < COLUMNS; i++)
+        levels[i] = 2;
+    for (int e = 0; e < RUNS * COLUMNS; e++)
+        table[e] = __builtin_parity((e / COLUMNS) & (e % COLUMNS + 1));
+}
+
+static void ask(void)
+{
+    word = crumb_word(levels, COLUMNS, table, sizeof table, 3);
+}
+
+/* Calls `work` with the end of the room as its stack. */
+static void on_painted_stack(void (*work)(void))
+{
+    for (long k = 0; k < ROOM; k++)
+        room[k] = paint;
+    __asm__ volatile("movq %%rsp, %%rbx\n\tmovq %0, %%rsp\n\tcall *%1\n\tmovq %%rbx, %%rsp"
+                     :
+                     : "r"(room + ROOM), "r"(work)
+                     : "rbx", "rax", "rcx", "rdx", "rsi", "rdi", "r8", "r9", "r10", "r11", "memory", "cc",
+                       "xmm0", "xmm1", "xmm2", "xmm3", "xmm4", "xmm5", "xmm6", "xmm7",
+                       "xmm8", "xmm9", "xmm10", "xmm11", "xmm12", "xmm13", "xmm14", "xmm15");
+}
+
+static long used(void)
+{
+    long left = 0;
+    while (left < ROOM && room[left] == paint)
+        left++;
+    return ROOM - left;
+}
+
+int main(void)
+{
+    make_plan();
+    on_painted_stack(ask);
+    printf("the words of %d runs and %d columns: W_3 = %ld, %ld bytes of stack\n", RUNS, COLUMNS, (long)word, used());
+    return word < 0 || used() >= LIMIT;
+}
