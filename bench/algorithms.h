@@ -10,6 +10,9 @@ typedef uint8_t byte;
 
 enum { MOST_COLUMNS = 24, MOST_RUNS = 256, MOST_SETS = 10626 };
 
+/* Words of sets are worked out by counts where the set has so many columns at most and the plan so many runs at least. */
+enum { MOST_COUNTED = 4, FEW_RUNS = 16, COMBINATIONS = 65536 };
+
 /* By value, so that no store through a pointer can be one to its fields. */
 typedef struct {
     const byte *levels, *table;
@@ -46,14 +49,19 @@ void diagonal_in_c(Plan plan, long *diagonal);
 /* strikes.c: as bench_strikes */
 long strikes_in_c(Plan plan, long n, long length, long times);
 
+/* sets.c: W(I), by counts where there are counters, which are all zero before and after, else by pairs */
+int is_counted(long n, long size);
+long set_word_in_c(Plan plan, const Runs *runs, const long *set, long size, uint16_t *counters);
+
 /* tables.c */
 void fill_binomials(void);
 long binomial(long a, long b);
 void set_at(long columns, long size, long place, long *set);
 Fraction reduced(uint64_t num, uint64_t den);
 int compared(Fraction x, Fraction y); /* below, at or above zero */
-Fraction value_in_c(Plan plan, const Runs *runs, const long *set, long size, int relative);
+Fraction value_in_c(Plan plan, const Runs *runs, const long *set, long size, int relative, uint16_t *counters);
 long table_in_c(Plan plan, long n, long size, int relative, uint64_t *nums, uint64_t *dens, uint64_t *counts);
+long table_by_pairs_in_c(Plan plan, long n, long size, int relative, uint64_t *nums, uint64_t *dens, uint64_t *counts);
 
 /* listing.c: as bench_ratio and crumb_listing, with a room for 2048 bytes */
 long ratio_in_c(Plan plan, long n);

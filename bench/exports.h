@@ -18,6 +18,15 @@ int64_t bench_strikes(const uint8_t *levels, size_t columns, const uint8_t *tabl
 int64_t bench_table(const uint8_t *levels, size_t columns, const uint8_t *table, size_t entries, uint64_t f, _Bool relative,
                     uint64_t *nums, size_t nums_room, uint64_t *dens, size_t dens_room, uint64_t *counts, size_t counts_room);
 
+/* W(I) of a set of f columns, by pairs of runs or by counts of combinations. */
+int64_t bench_set_word(const uint8_t *levels, size_t columns, const uint8_t *table, size_t entries, uint64_t f,
+                       const size_t *set, size_t set_columns, _Bool by_pairs);
+
+/* The words of all sets of f columns, added up, each by pairs of runs or by
+ * counts of combinations.
+ */
+int64_t bench_set_words(const uint8_t *levels, size_t columns, const uint8_t *table, size_t entries, uint64_t f, _Bool by_pairs);
+
 /* Generalized resolution in thousandths. */
 int64_t bench_ratio(const uint8_t *levels, size_t columns, const uint8_t *table, size_t entries);
 

@@ -64,17 +64,25 @@ static long resolution(Plan plan, const long *words)
     return j;
 }
 
-static Fraction largest_ratio(Plan plan, const Runs *runs, long size)
+static Fraction largest_over(Plan plan, const Runs *runs, long size, uint16_t *counters)
 {
     Fraction largest = { 0, 1 };
     long set[MOST_COLUMNS];
     for (long k = 0; k < binomial(plan.columns, size); k++) {
         set_at(plan.columns, size, k, set);
-        Fraction ratio = value_in_c(plan, runs, set, size, 1);
+        Fraction ratio = value_in_c(plan, runs, set, size, 1, counters);
         if (compared(largest, ratio) < 0)
             largest = ratio;
     }
     return largest;
+}
+
+static Fraction largest_ratio(Plan plan, const Runs *runs, long size)
+{
+    if (!is_counted(runs->count, size))
+        return largest_over(plan, runs, size, 0);
+    uint16_t counters[COMBINATIONS] = { 0 };
+    return largest_over(plan, runs, size, counters);
 }
 
 static long thousandths(long resolution, Fraction ratio)

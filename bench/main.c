@@ -1,8 +1,9 @@
 /* The library and the same algorithms in C at -O3, in one process, turn by
  * turn on the same inputs: prints the times and their ratio. The answers must
  * agree. With the argument `judged` the words of the largest plan may take at
- * most 1.3 times as long as in C. With `emulated` the longest line is left
- * out.
+ * most 1.3 times as long as in C. With `judged` and with `emulated` the words
+ * of its sets of four columns have to be 20 times faster by counts than by
+ * pairs.
  */
 #include "algorithms.h"
 #include "timing.h"
@@ -34,7 +35,7 @@ static double ratio_of(Times times)
 static void print_line(const char *name, Times times)
 {
     differ |= times.differ;
-    printf("%-24s %4ld %4ld %12.1f %12.1f %6.2f%s\n", name, n, m, times.library, times.c, ratio_of(times),
+    printf("%-26s %4ld %4ld %12.1f %12.1f %6.2f%s\n", name, n, m, times.library, times.c, ratio_of(times),
            times.differ ? "  THE ANSWERS DIFFER" : "");
 }
 
@@ -43,6 +44,13 @@ static Times print_timed(const char *name, Work *library, Work *c)
     Times times = timed(library, c);
     print_line(name, times);
     return times;
+}
+
+static double print_faster(Times times)
+{
+    double faster = times.c / (times.library > 0 ? times.library : 1);
+    printf("  times faster than by pairs         %12.1f\n", faster);
+    return faster;
 }
 
 /* ---- words */
@@ -89,7 +97,7 @@ static void time_strikes(long runs, long columns)
     print_line("strike", strike);
     Times recount = print_timed("recount", recount_of_library, recount_of_c);
     differ |= recount_of_library() != strikes_of_library();
-    printf("  strikes in a recount             %12.1f %12.1f\n", recount.library / strike.library, recount.c / strike.c);
+    printf("  strikes in a recount               %12.1f %12.1f\n", recount.library / strike.library, recount.c / strike.c);
 }
 
 /* ---- tables and generalized resolution */
@@ -99,6 +107,22 @@ static void time_table(long runs, long columns, long f)
     make_any(runs, columns);
     size = f;
     print_timed(f == 3 ? "table, f = 3" : "table, f = 4", table_of_library, table_of_c);
+}
+
+/* The library, by counts, against pairs in C. */
+static void time_table_by_pairs(long f)
+{
+    const char *name = f == 3 ? "table f = 3, C by pairs" : "table f = 4, C by pairs";
+    size = f;
+    print_faster(print_timed(name, table_of_library, table_by_pairs_of_c));
+}
+
+/* The library by counts, and in the place of C the library by pairs; how many times faster the one is. */
+static double time_set_words(long f)
+{
+    const char *name = f == 3 ? "set words f = 3, by pairs" : "set words f = 4, by pairs";
+    size = f;
+    return print_faster(print_timed(name, set_words_by_counts, set_words_by_pairs));
 }
 
 static void time_ratio(long runs, long columns)
@@ -125,7 +149,7 @@ static void time_growth(const char *name, const long sizes[][2], long lines)
         make_any(sizes[k][0], sizes[k][1]);
         Times times = print_timed(name, word_of_library, word_of_c);
         if (k > 0)
-            printf("  times the line before            %12.1f %12.1f\n", times.library / before.library, times.c / before.c);
+            printf("  times the line before              %12.1f %12.1f\n", times.library / before.library, times.c / before.c);
         before = times;
     }
 }
@@ -143,12 +167,31 @@ static void time_tables(void)
     time_table(64, 12, 3);
     time_table(64, 12, 4);
     time_table(256, 24, 3);
-    if (!emulated)
-        time_table(256, 24, 4);
+    time_table(256, 24, 4);
     time_ratio(64, 12);
     time_ratio(256, 24);
     time_listing(64, 12);
     time_listing(256, 24);
+}
+
+/* The largest plan; how many times faster the words of its sets of four columns are by counts. */
+static double time_by_pairs(void)
+{
+    make_any(256, 24);
+    time_table_by_pairs(3);
+    time_table_by_pairs(4);
+    time_set_words(3);
+    return time_set_words(4);
+}
+
+static int verdict(int slow, int not_faster)
+{
+    printf(differ ? "the answers differ\n" : "the answers agree\n");
+    if (slow)
+        printf("the words of the largest plan take more than 1.3 times the time of C\n");
+    if (not_faster)
+        printf("the words of the largest plan's sets of four columns are not 20 times faster by counts than by pairs\n");
+    return differ || slow || not_faster;
 }
 
 int main(int count, char **arguments)
@@ -156,7 +199,7 @@ int main(int count, char **arguments)
     int judged = count > 1 && strcmp(arguments[1], "judged") == 0;
     emulated = count > 1 && strcmp(arguments[1], "emulated") == 0;
     fill_binomials();
-    printf("%-24s %4s %4s %12s %12s %6s\n", "", "runs", "cols", "library us", "C us", "ratio");
+    printf("%-26s %4s %4s %12s %12s %6s\n", "", "runs", "cols", "library us", "C us", "ratio");
     time_words(16, 5);
     time_words(64, 12);
     double ratio = judged_words();
@@ -164,10 +207,7 @@ int main(int count, char **arguments)
     time_strikes(64, 12);
     time_strikes(256, 24);
     time_tables();
+    double faster = time_by_pairs();
     time_all_growth();
-    int slow = judged && ratio > 1.3;
-    printf(differ ? "the answers differ\n" : "the answers agree\n");
-    if (slow)
-        printf("the words of the largest plan take more than 1.3 times the time of C\n");
-    return differ || slow;
+    return verdict(judged && ratio > 1.3, (judged || emulated) && faster < 20);
 }

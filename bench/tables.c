@@ -1,6 +1,5 @@
-/* Projection frequency tables: the places in turn, each set's word by every
- * pair of different runs once, counted double, and the pairs of a run with
- * itself; the value put in its place among rising ones.
+/* Projection frequency tables: the places in turn, each set's word by counts
+ * or by pairs, and its value put in its place among rising ones.
  */
 #include "algorithms.h"
 
@@ -63,33 +62,6 @@ int compared(Fraction x, Fraction y)
 
 /* ---- the value of a set */
 
-static long pair_product(Plan plan, const byte *a, const byte *b, const long *set, long size)
-{
-    long product = 1;
-    for (long k = size; k-- > 0;)
-        product *= score(plan.levels[set[k]], a[set[k]], b[set[k]]);
-    return product;
-}
-
-static long later_products(Plan plan, const Runs *runs, long at, const long *set, long size)
-{
-    const byte *a = start_of(plan, runs->numbers[at]);
-    long total = 0;
-    for (long k = runs->count; k-- > at + 1;)
-        total += pair_product(plan, a, start_of(plan, runs->numbers[k]), set, size);
-    return total;
-}
-
-static long set_word(Plan plan, const Runs *runs, const long *set, long size)
-{
-    long word = 0;
-    for (long k = runs->count; k-- > 0;) {
-        const byte *a = start_of(plan, runs->numbers[k]);
-        word += 2 * later_products(plan, runs, k, set, size) + pair_product(plan, a, a, set, size);
-    }
-    return word;
-}
-
 static long smallest_level(Plan plan, const long *set, long size)
 {
     long smallest = plan.levels[set[0]];
@@ -99,11 +71,11 @@ static long smallest_level(Plan plan, const long *set, long size)
     return smallest;
 }
 
-Fraction value_in_c(Plan plan, const Runs *runs, const long *set, long size, int relative)
+Fraction value_in_c(Plan plan, const Runs *runs, const long *set, long size, int relative, uint16_t *counters)
 {
     uint64_t pairs = (uint64_t)(runs->count * runs->count);
     uint64_t less_one = relative ? (uint64_t)smallest_level(plan, set, size) - 1 : 1;
-    return reduced((uint64_t)set_word(plan, runs, set, size), pairs * less_one);
+    return reduced((uint64_t)set_word_in_c(plan, runs, set, size, counters), pairs * less_one);
 }
 
 /* ---- a table: numerators, denominators, counts */
@@ -142,21 +114,41 @@ static void count_value(Table *table, Fraction value)
         put_before(table, at, value);
 }
 
-long table_in_c(Plan plan, long n, long size, int relative, uint64_t *nums, uint64_t *dens, uint64_t *counts)
+static void tabulate(Plan plan, long n, long size, int relative, uint16_t *counters, Table *table)
 {
-    static Table table;
     long set[MOST_COLUMNS];
     Runs runs;
     every_run(n, &runs);
-    table.lines = 0;
+    table->lines = 0;
     for (long k = 0; k < binomial(plan.columns, size); k++) {
         set_at(plan.columns, size, k, set);
-        count_value(&table, value_in_c(plan, &runs, set, size, relative));
+        count_value(table, value_in_c(plan, &runs, set, size, relative, counters));
     }
-    for (long k = 0; k < table.lines; k++) {
-        nums[k] = table.values[k].num;
-        dens[k] = table.values[k].den;
-        counts[k] = table.counts[k];
+}
+
+static long copy_lines(const Table *table, uint64_t *nums, uint64_t *dens, uint64_t *counts)
+{
+    for (long k = 0; k < table->lines; k++) {
+        nums[k] = table->values[k].num;
+        dens[k] = table->values[k].den;
+        counts[k] = table->counts[k];
     }
-    return table.lines;
+    return table->lines;
+}
+
+static Table table;
+
+long table_by_pairs_in_c(Plan plan, long n, long size, int relative, uint64_t *nums, uint64_t *dens, uint64_t *counts)
+{
+    tabulate(plan, n, size, relative, 0, &table);
+    return copy_lines(&table, nums, dens, counts);
+}
+
+long table_in_c(Plan plan, long n, long size, int relative, uint64_t *nums, uint64_t *dens, uint64_t *counts)
+{
+    if (!is_counted(n, size))
+        return table_by_pairs_in_c(plan, n, size, relative, nums, dens, counts);
+    uint16_t counters[COMBINATIONS] = { 0 };
+    tabulate(plan, n, size, relative, counters, &table);
+    return copy_lines(&table, nums, dens, counts);
 }

@@ -135,6 +135,21 @@ long table_of_c(void)
     return sum_of_table(table_in_c(plan(), n, size, 0, nums, dens, counts));
 }
 
+long table_by_pairs_of_c(void)
+{
+    return sum_of_table(table_by_pairs_in_c(plan(), n, size, 0, nums, dens, counts));
+}
+
+long set_words_by_counts(void)
+{
+    return bench_set_words(levels, m, table, n * m, size, 0);
+}
+
+long set_words_by_pairs(void)
+{
+    return bench_set_words(levels, m, table, n * m, size, 1);
+}
+
 long ratio_of_library(void)
 {
     return bench_ratio(levels, m, table, n * m);

@@ -21,7 +21,8 @@ long word_of_library(void), word_of_c(void), word_by_rows_of_c(void);
 long strikes_of_library(void), strikes_of_c(void);
 long recount_of_library(void), recount_of_c(void);
 
-long table_of_library(void), table_of_c(void);
+long table_of_library(void), table_of_c(void), table_by_pairs_of_c(void);
+long set_words_by_counts(void), set_words_by_pairs(void); /* both of the library */
 long ratio_of_library(void), ratio_of_c(void);
 long listing_of_library(void), listing_of_c(void);
 

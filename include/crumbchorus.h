@@ -63,6 +63,9 @@ int64_t crumb_word(const uint8_t *levels, size_t columns,
  * is the number of its bytes, 2048 at most. The room's other bytes stay as
  * they were. Where the room is smaller than the listing the answer is -7 and
  * no byte of the room is written.
+ *
+ * Compiled for x86-64 it uses less than 192 KB of stack, 128 KB of it to count
+ * level combinations, which a test of the library measures.
  */
 int64_t crumb_listing(const uint8_t *text, size_t length,
                       uint8_t *room, size_t bytes);

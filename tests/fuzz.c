@@ -2,7 +2,8 @@
  * bytes flipped, inserted and cut, lines copied, heads and tails joined.
  * What comes out is handed to crumb_listing as it is, to crumb_rewrite with
  * a list of lost runs, and taken apart into levels, table and length for
- * crumb_word and crumb_write; the answers are compared with the reference.
+ * crumb_word and crumb_write, and for bench_set_word with a set of columns;
+ * the answers are compared with the reference.
  * Every lent buffer stands between two stretches of memory without
  * access: flush with the one behind it, and in a second call flush with the
  * one before it. A read or a write out of bounds traps.
@@ -16,6 +17,7 @@
  * crumb_word; a word must not be negative. How many those were is printed.
  */
 #include "fuzz_writers.h"
+#include "fuzz_sets.h"
 #include "lent.h"
 #include "draws.h"
 
@@ -418,8 +420,8 @@ static void mutate(Text *t)
     }
 }
 
-/* The writers draw from a row of their own, so that the mutations of a seed do not depend on them. */
-static unsigned long writers_row;
+/* The writers and the sets draw from rows of their own, so that the mutations of a seed do not depend on them. */
+static unsigned long writers_row, sets_row;
 
 static void one_round(void)
 {
@@ -434,7 +436,9 @@ static void one_round(void)
     unsigned long row = change_row(writers_row);
     try_write(&plan);
     try_rewrite();
-    writers_row = change_row(row);
+    writers_row = change_row(sets_row);
+    try_set(&plan);
+    sets_row = change_row(row);
 }
 
 int main(int count, char **arguments)
@@ -442,7 +446,7 @@ int main(int count, char **arguments)
     seed = argument(count, arguments, 1, 20261115);
     unsigned long rounds = argument(count, arguments, 2, 1000);
     start_draws(seed);
-    writers_row = row_of(seed + 1);
+    writers_row = row_of(seed + 1), sets_row = row_of(seed + 2);
     for (int k = 3; k < count; k++)
         load(arguments[k]);
     if (stored == 0)

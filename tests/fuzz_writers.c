@@ -60,11 +60,6 @@ typedef struct {
     int late;
 } Rooms;
 
-static size *lend_numbers(Guarded g, const void *numbers, long count, int late)
-{
-    return (size *)lend(g, numbers, count * (long)sizeof(size), late);
-}
-
 static long ask_rewrite(const byte *from, const size *lost, long losses, byte *room, size *numbers, Rooms rooms)
 {
     asked = "crumb_rewrite";

@@ -6,7 +6,7 @@ void exit(int status);
 enum { DIFFERENCES = 10 };
 
 Tally words = { .name = "crumb_word" }, listings = { .name = "crumb_listing" };
-Tally writes = { .name = "crumb_write" }, rewrites = { .name = "crumb_rewrite" };
+Tally writes = { .name = "crumb_write" }, rewrites = { .name = "crumb_rewrite" }, sets = { .name = "bench_set_word" };
 unsigned long seed, round_now;
 Text text;
 const char *asked = "the fuzzer";
@@ -28,6 +28,7 @@ void finish(void)
     print_tally(&listings);
     print_tally(&writes);
     print_tally(&rewrites);
+    print_tally(&sets);
     printf("the reference by definition and by its short cut: %ld differ\n", reference_disagreements);
     printf("%s: %ld differ\n", differences == 0 ? "the same" : "NOT the same", differences);
     exit(differences != 0 || reference_disagreements != 0);

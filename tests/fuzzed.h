@@ -12,7 +12,7 @@ typedef struct {
     long tried, uncompared, met[16];
 } Tally;
 
-extern Tally words, listings, writes, rewrites;
+extern Tally words, listings, writes, rewrites, sets;
 extern unsigned long seed, round_now;
 
 /* What this round's inputs are made from. */

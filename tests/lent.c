@@ -13,7 +13,7 @@ enum { NO_ACCESS = 0, READ_AND_WRITE = 3, PRIVATE_AND_ANONYMOUS = 0x22 };
 /* A multiple of every page size in use, an emulator's host included. */
 enum { STRETCH = 65536 };
 
-Guarded lent_text, lent_room, lent_levels, lent_table, lent_losses, lent_numbers;
+Guarded lent_text, lent_room, lent_levels, lent_table, lent_losses, lent_numbers, lent_columns;
 byte canaries[CANARIES];
 
 static Guarded guarded(void)
@@ -30,7 +30,7 @@ static Guarded guarded(void)
 void start_lending(void)
 {
     lent_text = guarded(), lent_room = guarded(), lent_levels = guarded(), lent_table = guarded();
-    lent_losses = guarded(), lent_numbers = guarded();
+    lent_losses = guarded(), lent_numbers = guarded(), lent_columns = guarded();
     memset(canaries, CANARY, sizeof canaries);
 }
 
@@ -39,4 +39,9 @@ byte *lend(Guarded g, const byte *bytes, long length, int late)
     byte *copy = late ? g.start + STRETCH - length : g.start;
     memcpy(copy, bytes, (unsigned long)length);
     return copy;
+}
+
+unsigned long *lend_numbers(Guarded g, const void *numbers, long count, int late)
+{
+    return (unsigned long *)lend(g, numbers, count * (long)sizeof(unsigned long), late);
 }

@@ -165,6 +165,47 @@ long reference_word(const byte *levels, long columns, const byte *table, long en
     return word(&p, (long)length);
 }
 
+/* Refusals 1 to 5 and 6; 0 where there is none. */
+static int refused_for_size(const byte *levels, long columns, const byte *table, long entries, unsigned long f)
+{
+    Refusal r = reference_check(levels, columns, table, entries);
+    if (r.number != 0)
+        return r.number;
+    return f < 1 || f > 4 || f > (unsigned long)columns ? 6 : 0;
+}
+
+static int is_set(const unsigned long *set, long count, long columns)
+{
+    for (long k = 0; k < count; k++)
+        if (set[k] >= (unsigned long)columns || (k > 0 && set[k] <= set[k - 1]))
+            return 0;
+    return 1;
+}
+
+long reference_set_word(const byte *levels, long columns, const byte *table, long entries, unsigned long f,
+                        const unsigned long *set, long count)
+{
+    long kept[4];
+    int refused = refused_for_size(levels, columns, table, entries, f);
+    if (refused != 0)
+        return -refused;
+    if (f != (unsigned long)count || !is_set(set, count, columns))
+        return -8;
+    for (long k = 0; k < count; k++)
+        kept[k] = (long)set[k];
+    Plan p = whole(levels, columns, table, entries);
+    return set_word(&p, kept, count);
+}
+
+long reference_set_words(const byte *levels, long columns, const byte *table, long entries, unsigned long f)
+{
+    int refused = refused_for_size(levels, columns, table, entries, f);
+    if (refused != 0)
+        return -refused;
+    Plan p = whole(levels, columns, table, entries);
+    return word(&p, (long)f);
+}
+
 /* ---- strength, from counts of every combination */
 
 static long occurrences(const Plan *p, const long *set, long size, const long *combination)

@@ -29,6 +29,13 @@ Refusal reference_check(const byte *levels, long columns, const byte *table, lon
 /* W_j, or the refusal number negated. */
 long reference_word(const byte *levels, long columns, const byte *table, long entries, unsigned long length);
 
+/* W(I) of a set of f columns, or the refusal number negated. */
+long reference_set_word(const byte *levels, long columns, const byte *table, long entries, unsigned long f,
+                        const unsigned long *set, long count);
+
+/* The words of all sets of f columns, added up, or the refusal number negated. */
+long reference_set_words(const byte *levels, long columns, const byte *table, long entries, unsigned long f);
+
 /* The levels and the table in a text. */
 typedef struct {
     byte levels[16400], table[16400];

@@ -1,17 +1,19 @@
-/* How much stack the words of the largest plan use: the call is made on a
- * stack of our own, painted before it, and the paint that is left is counted.
- * Prints the bytes, and the exit status is not 0 where they are 2,048 or more.
+/* How much stack the words and the listing of the largest plan use: the call
+ * is made on a stack of our own, painted before it, and the paint that is left
+ * is counted. Prints the bytes, and the exit status is not 0 where they are
+ * 2,048 or more for the words, or 196,608 for the listing.
  */
 #include "crumbchorus.h"
 
 int printf(const char *format, ...);
 
-enum { COLUMNS = 24, RUNS = 256, ROOM = 1 << 16, LIMIT = 2048 };
+enum { COLUMNS = 24, RUNS = 256, ROOM = 1 << 18, LIMIT = 2048, LISTING_LIMIT = 196608 };
 
 static uint8_t levels[COLUMNS], table[RUNS * COLUMNS];
 static uint8_t room[ROOM] __attribute__((aligned(16)));
 static const uint8_t paint = 0xA5;
-static int64_t word;
+static uint8_t text[2 * (RUNS + 1) * COLUMNS], listing[2048];
+static int64_t answer;
 
 /* Column i is the parity of the bits that the run's number and i + 1 share. */
 static void make_plan(void)
@@ -22,9 +24,22 @@ static void make_plan(void)
         table[e] = __builtin_parity((e / COLUMNS) & (e % COLUMNS + 1));
 }
 
-static void ask(void)
+static void write_text(void)
 {
-    word = crumb_word(levels, COLUMNS, table, sizeof table, 3);
+    for (int e = -COLUMNS, k = 0; e < RUNS * COLUMNS; e++) {
+        text[k++] = (uint8_t)('0' + (e < 0 ? levels[e + COLUMNS] : table[e]));
+        text[k++] = (e + COLUMNS) % COLUMNS == COLUMNS - 1 ? '\n' : ',';
+    }
+}
+
+static void ask_word(void)
+{
+    answer = crumb_word(levels, COLUMNS, table, sizeof table, 3);
+}
+
+static void ask_listing(void)
+{
+    answer = crumb_listing(text, sizeof text, listing, sizeof listing);
 }
 
 /* Calls `work` with the end of the room as its stack. */
@@ -51,7 +66,11 @@ static long used(void)
 int main(void)
 {
     make_plan();
-    on_painted_stack(ask);
-    printf("the words of %d runs and %d columns: W_3 = %ld, %ld bytes of stack\n", RUNS, COLUMNS, (long)word, used());
-    return word < 0 || used() >= LIMIT;
+    write_text();
+    on_painted_stack(ask_word);
+    printf("the words of %d runs and %d columns: W_3 = %ld, %ld bytes of stack\n", RUNS, COLUMNS, (long)answer, used());
+    int over = answer < 0 || used() >= LIMIT;
+    on_painted_stack(ask_listing);
+    printf("their listing: %ld bytes, %ld bytes of stack\n", (long)answer, used());
+    return over || answer < 0 || used() >= LISTING_LIMIT;
 }

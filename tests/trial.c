@@ -2,18 +2,21 @@
  * generated inputs: good plans and damaged ones, two damages at a time in
  * both orders, boundary sizes, arrays with strength and runs taken out of
  * them, columns of one level among others, lists of lost runs, rooms too
- * short by one. Prints its seed and what it tried.
+ * short by one, sets of columns by both of the library's engines. Prints its
+ * seed and what it tried.
  *
- * Arguments: the seed, and 1 for a short run. The exit status is not 0 where
- * an answer differed, and in a full run also where a function was tried less
- * than 100,000 times, or a refusal, two refusals at once or two damages in
- * their order did not come up, or plans with columns of one level, without
- * any or of such alone fewer than 10,000 times.
+ * Arguments: the seed, and 1 for a short run, 2 for a short run of the sets
+ * alone. The exit status is not 0 where an answer differed, and in a full run
+ * also where a function was tried less than 100,000 times (sets of columns
+ * 50,000, all sets of a size 15,000 times), or a refusal, two refusals at once
+ * or two damages in their order did not come up, or plans with columns of one
+ * level, without any or of such alone fewer than 10,000 times.
  *
  * It declares what it needs of the C library, so that it compiles with the
  * kit's own clang, which comes without headers.
  */
 #include "trial_writers.h"
+#include "trial_sets.h"
 #include "grades.h"
 #include "rooms.h"
 #include "draws.h"
@@ -29,8 +32,7 @@ static void try_word(const Plan *p)
 {
     long wanted = reference_word(p->levels, p->columns, p->table, p->entries, p->length);
     long got = crumb_word(p->levels, (size)p->columns, p->table, (size)p->entries, p->length);
-    words.tried++;
-    words.met[wanted < 0 && wanted > -16 ? -wanted : 0]++; /* an error planted in the reference may give any number */
+    note_word(&words, wanted);
     if (got != wanted) {
         differs("crumb_word", got, wanted);
         print_plan(p);
@@ -354,12 +356,8 @@ static void boundaries(int full)
     one_level_columns(&plan, full);
 }
 
-int main(int count, char **arguments)
+static void everything_but_sets(int full)
 {
-    unsigned long seed = argument(count, arguments, 1, 20261115);
-    int full = argument(count, arguments, 2, 0) == 0;
-    start_draws(seed);
-    printf("seed %lu%s\n", seed, full ? "" : ", a short run");
     generated(full ? 120000 : 2000);
     damaged(full ? 400 : 4, &words, damaged_word);
     damaged(full ? 120 : 2, &listings, damaged_listing);
@@ -367,5 +365,24 @@ int main(int count, char **arguments)
     generated_writers(full ? 100000 : 2000);
     damaged(full ? 250 : 4, &writes, damaged_write);
     damaged(full ? 40 : 2, &rewrites, damaged_rewrite);
+}
+
+static void all_sets(int full)
+{
+    generated_sets(full ? 30000 : 2000);
+    damaged(full ? 60 : 2, &sets, damaged_set);
+    damaged(full ? 60 : 2, &set_words, damaged_set_words);
+    sets_at_limits(full);
+}
+
+int main(int count, char **arguments)
+{
+    unsigned long seed = argument(count, arguments, 1, 20261115), kind = argument(count, arguments, 2, 0);
+    int full = kind == 0;
+    start_draws(seed);
+    printf("seed %lu%s\n", seed, full ? "" : ", a short run");
+    if (kind != 2)
+        everything_but_sets(full);
+    all_sets(full);
     finish(full);
 }

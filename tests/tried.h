@@ -3,15 +3,18 @@
 #ifndef TRIED_H
 #define TRIED_H
 
+#include "columns.h"
 #include "losses.h"
 #include "plans.h"
 
 typedef unsigned long size;
 
 enum { LISTING_DAMAGES = PLAN_DAMAGES + TEXT_DAMAGES, REWRITE_DAMAGES = LISTING_DAMAGES + LOSS_DAMAGES, DAMAGES = REWRITE_DAMAGES };
+enum { SET_DAMAGES = PLAN_DAMAGES + COLUMN_DAMAGES, SET_WORDS_DAMAGES = PLAN_DAMAGES + SIZE_DAMAGES };
 
 typedef struct {
     const char *name;
+    long least;                  /* so often it has to be tried */
     int damages;
     int refusals[12];            /* those that can be met, in the order of the checks, closed by 0 */
     long tried, met[16];         /* by refusal number, answers at 0 */
@@ -19,7 +22,7 @@ typedef struct {
     long damaged[DAMAGES][DAMAGES];
 } Tally;
 
-extern Tally words, listings, writes, rewrites;
+extern Tally words, listings, writes, rewrites, sets, set_words;
 
 /* A good plan that was generated. */
 void note_levels(const Plan *p);
@@ -30,6 +33,9 @@ void note_at_once(Tally *tally, unsigned refusals);
 /* An input that was answered, or refused by this number negated; one that is answered is also tried in a room too small. */
 void note_answer(Tally *tally, long answer);
 
+/* The same of a word, which has no room. */
+void note_word(Tally *tally, long answer);
+
 /* The first few are printed; the next one ends the trial. */
 void differs(const char *what, long got, long wanted);
 
@@ -37,6 +43,7 @@ void differs(const char *what, long got, long wanted);
 void print_plan(const Plan *p);
 void print_text(const Text *t);
 void print_losses(const Losses *l);
+void print_columns(const Columns *c);
 
 /* Prints what was tried, and ends the program. */
 void finish(int full);

@@ -8,11 +8,14 @@ use borrow.Author.Tests.{eqb-true, not-false, ltb-false}
 use lib.Dec.{T}
 use lib.ListN.{length}
 use Rattle.exact.proofs.Numbers.{length-from}
+use Rattle.rules.specs.declared.Refusal.{Refusal}
 use Rattle.rules.specs.Plan.{Plan, columns, level, entry, everyRun, everyColumn}
-use Rattle.rules.specs.Refusals.{Check, refusal, refuses, planChecks, ofPlan, badRoom, badLength}
+use Rattle.rules.specs.Refusals.{Check, refusal, refuses, planChecks, ofPlan, badRoom, badLength, badSize, badSet}
 use Rattle.rules.proofs.Order.{known, number-most, passed-none, none-passed}
 use Rattle.plan.proofs.Checks.{passed-good}
 use Rattle.words.specs.Answers.{wordAnswer}
+use Rattle.projections.specs.declared.SetWordAnswer.{SetWordAnswer}
+use Rattle.projections.specs.Projections.{setWordAnswer}
 use Rattle.frequencies.specs.declared.TableAnswer.{TableAnswer}
 use Rattle.frequencies.specs.Frequencies.{Line, Rooms, shortest, tableRefusal, tableAnswer}
 use Rattle.resolution.specs.declared.GeneralizedAnswer.{GeneralizedAnswer}
@@ -99,3 +102,12 @@ module _ (p : Plan) {a : GeneralizedAnswer} (e : a ≡ generalizedAnswer p (ever
             length-from 0 (columns p),
             resolution-is (level p) (entry p) (everyRun p) (everyColumn p) .high,
           )
+
+-- ---- words of sets of columns
+
+pub set-number : (p : Plan) (f : ℕ) (I : List ℕ) {a : SetWordAnswer} → a ≡ setWordAnswer p (everyRun p) (ofPlan p) f I → a .refused .number ≤ 14
+unfolding setWordAnswer
+set-number p f I e = rw e (number-most (ofPlan p (badSize (columns p) f ∷ badSet (columns p) f I ∷ [])) tt)
+
+pub size-number : (p : Plan) (f : ℕ) {r : Refusal} → r ≡ refusal (ofPlan p (badSize (columns p) f ∷ [])) → r .number ≤ 14
+size-number p f e = rw e (number-most (ofPlan p (badSize (columns p) f ∷ [])) tt)

@@ -1,10 +1,13 @@
 -- What the exports for the benchmark and the tests answer: a number, or a refusal's number negated.
 use mathlib.Core.Bool.{Bool}
+use mathlib.Core.List.{List, [], _∷_}
 use Prim.Native.Nat.{ℕ, zero, suc}
 use lib.IntN.{ℤ, pos, negℤ}
-use Rattle.rules.specs.Plan.{Plan, columns, everyRun}
-use Rattle.rules.specs.Refusals.{unless, ofPlan}
+use Rattle.rules.specs.Plan.{Plan, columns, level, entry, everyColumn, everyRun}
+use Rattle.rules.specs.Refusals.{refusal, unless, ofPlan, badSize}
 use Rattle.rules.specs.declared.Refusal.{Refusal}
+use Rattle.words.specs.Words.{word}
+use Rattle.projections.specs.Projections.{setWordAnswer}
 use Rattle.frequencies.specs.Frequencies.{Rooms, tableIn, tableAnswer}
 use Rattle.resolution.specs.Resolution.{generalizedAnswer}
 use Rattle.held.specs.declared.Held.{Held}
@@ -39,3 +42,12 @@ tableNumber relative p f rooms =
 unfoldable pub ratioNumber : Plan → ℤ
 ratioNumber p =
     let answer = generalizedAnswer p (everyRun p) (ofPlan p) in numberOf (answer .refused) (pos (answer .thousandths))
+
+-- W(I) of a set of f columns
+unfoldable pub setWordNumber : Plan → ℕ → List ℕ → ℤ
+setWordNumber p f I =
+    let answer = setWordAnswer p (everyRun p) (ofPlan p) f I in numberOf (answer .refused) (answer .word)
+
+-- W(I) of all sets of f columns, added up
+unfoldable pub setWordsNumber : Plan → ℕ → ℤ
+setWordsNumber p f = numberOf (refusal (ofPlan p (badSize (columns p) f ∷ []))) (word (level p) (entry p) (everyRun p) (everyColumn p) f)

@@ -2,14 +2,25 @@
 // Each answers a number, or the refusal number negated.
 use exact::signed;
 use held::Held;
+use projections::Engine;
+use projections::inner::check_size;
+use projections::inner::word_by_pairs;
 use rules::Refusal;
+use sets::inner::binomial;
+use sets::inner::set_at;
 ghost use mathlib.Core.Path.{_≡_};
+ghost use mathlib.Core.List.{[]};
 ghost use Prim.Native.Nat.{_≤_};
-ghost use Rattle.rules.specs.Plan.{plan, columns, everyRun};
+ghost use lib.ListN.{length};
+ghost use Rattle.rules.specs.Plan.{plan, columns, level, entry, everyColumn, everyRun};
 ghost use Rattle.rules.specs.Refusals.{ofPlan};
+ghost use Rattle.plan.specs.Good.{Sound};
+ghost use Rattle.words.specs.Words.{wordOf, word};
+ghost use Rattle.counts.specs.Parts.{counted};
+ghost use Rattle.projections.specs.Given.{Projection, SizeOf};
 ghost use Rattle.frequencies.specs.Frequencies.{rooms, tableIn, tableRooms};
 ghost use Rattle.held.specs.Held.{IsHeld};
-ghost use Rattle.bench.specs.Exports.{numberOf, rounds, strikesNumber, tableNumber, ratioNumber};
+ghost use Rattle.bench.specs.Exports.{numberOf, rounds, strikesNumber, tableNumber, ratioNumber, setWordNumber, setWordsNumber};
 
 fn number_of(refused: Refusal, value: i64) -> i64
     requires { ⌜ refused .number ≤ 14 ⌝ }
@@ -82,4 +93,78 @@ pub extern "C" fn bench_ratio(levels: &[u8], table: &[u8]) -> i64
 {
     let answer = resolution::generalized(levels, table);
     number_of(answer.refused, signed::of_u64(answer.thousandths))
+}
+
+// W(I) of a set of f columns, by the engine that is named.
+#[no_mangle]
+pub extern "C" fn bench_set_word(
+    levels: &[u8],
+    table: &[u8],
+    f: u64,
+    columns: &[usize],
+    by_pairs: bool,
+) -> i64
+    ensures { λ r. ⌜ r ≡ setWordNumber (plan (now (levels .entry)) (now (table .entry))) f (now (columns .entry)) ⌝ }
+{
+    let engine = if by_pairs {
+        Engine::Pairs
+    } else {
+        Engine::Counts
+    };
+    let answer = projections::set_word_by(levels, table, f as usize, columns, engine);
+    number_of(answer.refused, answer.word)
+}
+
+// W(I) of the runs, by the engine that is named.
+fn word_by(
+    levels: &[u8],
+    table: &[u8],
+    runs: &[usize],
+    columns: &[usize],
+    by_pairs: bool,
+    counters: &mut [u16; 65536],
+) -> i64
+    requires { ⌜ Sound (plan (now levels) (now table)) (now runs)
+        × (Projection (plan (now levels) (now table)) (now columns) × (length (now columns) ≤ 4)) ⌝ }
+    requires { ⌜ now counters ≡ counted [] ⌝ }
+    ensures word { λ r. ⌜ (let p = plan (now (levels .entry)) (now (table .entry)) in
+        r ≡ wordOf (level p) (entry p) (now (runs .entry)) (now (columns .entry))) ⌝ }
+    ensures counters { λ _. ⌜ now (counters .exit) ≡ counted [] ⌝ }
+{
+    if by_pairs {
+        return word_by_pairs(levels, table, runs, columns);
+    }
+    counts::parts::word(levels, table, runs, columns, counters)
+}
+
+// The words of all sets of f columns, added up.
+fn words_added(levels: &[u8], table: &[u8], runs: &[usize], f: usize, by_pairs: bool) -> i64
+    requires { ⌜ Sound (plan (now levels) (now table)) (now runs) × SizeOf (length (now levels)) f ⌝ }
+    ensures { λ r. ⌜ (let p = plan (now (levels .entry)) (now (table .entry)) in
+        r ≡ word (level p) (entry p) (now (runs .entry)) (everyColumn p) f) ⌝ }
+{
+    let m = levels.len();
+    let mut counters = [0u16; 65536];
+    let mut total: i64 = 0;
+    for k in 0..binomial(m, f) {
+        let set = set_at(m, f, k);
+        let word = word_by(levels, table, runs, &set[..f], by_pairs, &mut counters);
+        total = signed::add(total, word);
+    }
+    total
+}
+
+// W(I) of every set of f columns, by the engine that is named, added up.
+#[no_mangle]
+pub extern "C" fn bench_set_words(levels: &[u8], table: &[u8], f: u64, by_pairs: bool) -> i64
+    ensures { λ r. ⌜ r ≡ setWordsNumber (plan (now (levels .entry)) (now (table .entry))) f ⌝ }
+{
+    let size = f as usize;
+    let refused = check_size(levels, table, size);
+    if refused.number != 0 {
+        return number_of(refused, 0);
+    }
+    let n = table.len() / levels.len();
+    let numbers = plan::inner::every_run(n);
+    words_added(levels, table, &numbers[..n], size, by_pairs)
 }

@@ -10,3 +10,7 @@ pub mod Several
 pub mod Ceiling
 pub mod Agreeing
 pub mod WordCounts
+pub mod Squared
+pub mod OverParts
+pub mod FromCounts
+pub mod Turned

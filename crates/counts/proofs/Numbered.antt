@@ -51,7 +51,7 @@ digit p x k a l h g e = go (decLt x a) (decLt a x)
 eq→eqb : {m n : ℕ} → m ≡ n → T (eqb m n)
 eq→eqb {m} {n} e = rw e (eqb-refl n)
 
-digits : (p x k a l : ℕ) → k < p → l < p → eqb (x * p + k) (a * p + l) ≡ (eqb x a && eqb k l)
+pub digits : (p x k a l : ℕ) → k < p → l < p → eqb (x * p + k) (a * p + l) ≡ (eqb x a && eqb k l)
 digits p x k a l h g = iff-eq (eqb (x * p + k) (a * p + l)) (eqb x a && eqb k l)
     (λ t.
     let e = eqb→eq (x * p + k) (a * p + l) t in let d = digit p x k a l h g e in

@@ -75,7 +75,7 @@ module _ {R C : Type 0} (level : C → ℕ) (entry : R → C → ℕ) (f : R) wh
 -- ---- one run more
 
 module _ {A : Type 0} where
-  count-bound : (test : A → Bool) (xs : List A) → count test xs ≤ length xs
+  pub count-bound : (test : A → Bool) (xs : List A) → count test xs ≤ length xs
   count-bound test [] = le-refl 0
   count-bound test (x ∷ xs) = go (test x) (count-bound test xs)
     where
@@ -92,7 +92,7 @@ module _ {A : Type 0} where
       ∙ rw (map-append g) (take-at (map g (from 0 k)) (map g (from (0 + k) (n - k))) k (length-numbered g k))
 
 -- one more in the counter x
-raise : (g : ℕ → ℕ) (x n : ℕ) → x < n → set (map g (from 0 n)) x (g x + 1) ≡ map (λ k. cond (eqb x k) (g k + 1) (g k)) (from 0 n)
+pub raise : (g : ℕ → ℕ) (x n : ℕ) → x < n → set (map g (from 0 n)) x (g x + 1) ≡ map (λ k. cond (eqb x k) (g k + 1) (g k)) (from 0 n)
 raise g x n h = ext-getD 0 (set (map g (from 0 n)) x (g x + 1)) (map raised (from 0 n)) (long ∙ sym (length-numbered raised n)) (λ k l.
     let d : k < n = subst (λ m. k < m) long l in
     go k d (ℕ-discrete x k) ∙ sym (map-from-at raised 0 n k 0 d ∙ ap raised (zero-add k)))

@@ -1,7 +1,7 @@
 -- W(I) from the counts of combinations: the alternating sum, over the parts J of I, of the levels' product times the sum of squared counts.
 use mathlib.Core.Path.{_≡_, refl, sym, _∙_, ap}
 use mathlib.Core.List.{List, [], _∷_, map, List·Memᴰ·head, List·Memᴰ·tail}
-use Prim.Native.Nat.{ℕ, zero, suc, _-_, _≤_, zero-le}
+use Prim.Native.Nat.{ℕ, suc, _-_, _≤_, zero-le}
 use native.Mathlib.Nat.{suc-sub-suc}
 use native.Mathlib.Omega.{arith}
 use lib.ListN.{length}
@@ -16,6 +16,7 @@ use Rattle.words.proofs.Squares.{agree, agree-sym, score-agree, pick}
 use Rattle.words.proofs.Positive.{pairs, pairs-one, pairs-plain, pairs-split}
 use Rattle.counts.specs.Counts.{combinations, tally}
 use Rattle.counts.specs.Numbered.{productOf, tallyOf}
+use Rattle.counts.specs.Parts.{sign}
 use Rattle.counts.proofs.Numbered.{tallies-numbered}
 use Rattle.counts.proofs.Even.{AllBelow}
 use Rattle.counts.proofs.Shown.{has, has-nil, has-cons, tally-sum}
@@ -25,11 +26,6 @@ module _ {A B : Type 0} where
   sum-each : (xs : List A) (g : A → List B) (F : B → ℤ) → sum (each xs g) F ≡ sum xs (λ x. sum (g x) F)
   sum-each [] g F = refl
   sum-each (x ∷ xs) g F = sum-++ (g x) (each xs g) F ∙ ap (λ z. sum (g x) F +ℤ z) (sum-each xs g F)
-
--- 1, and each time the other sign
-abbrev pub sign : ℕ → ℤ
-sign zero = pos 1
-sign (suc n) = negℤ (sign n)
 
 abbrev square : ℤ → ℤ
 square z = z *ℤ z
@@ -59,7 +55,7 @@ module _ {R C : Type 0} (level : C → ℕ) (entry : R → C → ℕ) (runs : Li
       ∙ sym (sum-each A (λ a. map (λ P. a ∷ P) (combinations level J)) F)
 
   -- the sum of the squared counts, combination after combination
-  pub squares : List C → ℤ
+  unfoldable pub squares : List C → ℤ
   squares J = sum (from 0 (productOf level J)) (λ k. square (pos (tallyOf level entry runs J k)))
 
   squares-tally : (J : List C) → AllBelow level entry runs J → sum (combinations level J) (λ P. square (pos (tally entry runs J P))) ≡ squares J
@@ -87,7 +83,7 @@ one-more n m h = omega arith
 flip : (s p : ℤ) → negℤ s *ℤ p ≡ negsuc 0 *ℤ (s *ℤ p)
 flip s p = simp ring
 
-gather : (y p : ℤ) → y *ℤ p +ℤ negsuc 0 *ℤ p ≡ (y -ℤ pos 1) *ℤ p
+pub gather : (y p : ℤ) → y *ℤ p +ℤ negsuc 0 *ℤ p ≡ (y -ℤ pos 1) *ℤ p
 gather y p = simp ring
 
 module _ {A : Type 0} where

@@ -100,10 +100,11 @@ fn tabulate(
         rooms (now (nums .exit)) (now (dens .exit)) (now (counts .exit)) ≡ filled (tableIn relative p (now (runs .entry)) f) R) ⌝ }
 {
     let m = levels.len();
+    let mut counters = [0u16; 65536];
     let mut used = 0;
     for k in 0..sets::inner::binomial(m, f) {
         let set = sets::inner::set_at(m, f, k);
-        let value = value(levels, table, runs, &set[..f], relative);
+        let value = value(levels, table, runs, &set[..f], relative, &mut counters);
         used = count_value(nums, dens, counts, used, value);
     }
     used

@@ -18,6 +18,7 @@ use Rattle.words.specs.Words.{wordOf}
 use Rattle.words.proofs.Bound.{sum-bound}
 use Rattle.words.proofs.Positive.{wordOf-nonneg}
 use Rattle.words.proofs.Laws.{score-sym, total-with}
+use Rattle.counts.specs.Numbered.{Columns}
 use Rattle.projections.specs.Given.{Projection, Starts, pairOf}
 use Rattle.projections.proofs.Products.{product-small}
 
@@ -27,6 +28,10 @@ module _ (p : Plan) (rs I : List ℕ) (S : Sound p rs) (P : Projection p I) wher
     inside = λ i k. omega (arith, S .inside f m, P .inside i k);
     below = λ i k. S .below f m i (P .inside i k);
   }
+
+  -- as columns that combinations are counted in
+  pub counted-columns : Columns (p .levels) I
+  counted-columns = record { inside = P .inside; low = λ i m. S .level-low i (P .inside i m) }
 
   pub start-small : (f : ℕ) → List·Memᴰ f rs → f * columns p ≤ mostRuns * mostColumns
   start-small f m = mul-below f (columns p) mostRuns mostColumns (omega (arith, S .numbered f m)) (S .columns-high)

@@ -1,4 +1,5 @@
 // For our own crates: W(I) and its value over some runs of a plan, each named by its number. The runs that stand are such a list.
+use crate::Engine;
 use exact::fractions::Fraction;
 use exact::fractions::reduced;
 use exact::signed;
@@ -9,11 +10,21 @@ ghost use Prim.Native.Nat.{_+_, _≤_, _<_};
 ghost use lib.ListN.{length, getD, drop};
 ghost use Rattle.exact.specs.Lists.{sum, smallest};
 ghost use Rattle.rules.specs.Plan.{plan, columns, level, entry, everyRun, highestLevel};
-ghost use Rattle.rules.specs.Refusals.{refusal, ofPlan, badSize};
+ghost use Rattle.rules.specs.Refusals.{refusal, ofPlan, badSize, badSet};
 ghost use Rattle.plan.specs.Good.{Good, Sound};
 ghost use Rattle.words.specs.Words.{wordOf};
+ghost use Rattle.counts.specs.Parts.{counted};
 ghost use Rattle.projections.specs.Given.{Projection, Starts, Tabled, SomeColumns, productOf, pairOf, overPairs};
 ghost use Rattle.projections.specs.Projections.{valueIn};
+
+// Up to so many columns there is a counter for every combination.
+const MOST_COUNTED: usize = 4;
+
+// Below so many runs one word is quicker by pairs, since the counters have to be made for it.
+const FEW_RUNS: usize = 48;
+
+// Below so many runs a word is quicker by pairs, even where the counters are there.
+const FEW_RUNS_OF_A_WALK: usize = 16;
 
 // The product of the scores in the columns, for the runs that start at places a and b of the table.
 fn pair_product(levels: &[u8], table: &[u8], a: usize, b: usize, columns: &[usize]) -> i64
@@ -52,8 +63,8 @@ fn later_products(levels: &[u8], table: &[u8], runs: &[usize], at: usize, column
     total
 }
 
-// W(I) of the runs: each pair of different runs once, counted double, and the pairs of a run with itself.
-pub fn set_word(levels: &[u8], table: &[u8], runs: &[usize], columns: &[usize]) -> i64
+// W(I) of the runs by pairs: each pair of different runs once, counted double, and the pairs of a run with itself.
+pub fn word_by_pairs(levels: &[u8], table: &[u8], runs: &[usize], columns: &[usize]) -> i64
     requires { ⌜ Sound (plan (now levels) (now table)) (now runs) × Projection (plan (now levels) (now table)) (now columns) ⌝ }
     ensures { λ r. ⌜ (let p = plan (now (levels .entry)) (now (table .entry)) in
         r ≡ wordOf (level p) (entry p) (now (runs .entry)) (now (columns .entry))) ⌝ }
@@ -71,14 +82,74 @@ pub fn set_word(levels: &[u8], table: &[u8], runs: &[usize], columns: &[usize]) 
     word
 }
 
-// The same of every run of a plan.
-pub(crate) fn set_word_of_plan(levels: &[u8], table: &[u8], columns: &[usize]) -> i64
-    requires { ⌜ Good (plan (now levels) (now table)) × Projection (plan (now levels) (now table)) (now columns) ⌝ }
+// W(I) of the runs by counts, for up to 4 columns. The counters are made for it.
+fn word_by_counts(levels: &[u8], table: &[u8], runs: &[usize], columns: &[usize]) -> i64
+    requires { ⌜ Sound (plan (now levels) (now table)) (now runs)
+        × (Projection (plan (now levels) (now table)) (now columns) × (length (now columns) ≤ 4)) ⌝ }
+    ensures { λ r. ⌜ (let p = plan (now (levels .entry)) (now (table .entry)) in
+        r ≡ wordOf (level p) (entry p) (now (runs .entry)) (now (columns .entry))) ⌝ }
+{
+    let mut counters = [0u16; 65536];
+    counts::parts::word(levels, table, runs, columns, &mut counters)
+}
+
+// W(I) of the runs by the engine that is faster: by counts from so many runs on that the counters are worth making.
+pub fn set_word(levels: &[u8], table: &[u8], runs: &[usize], columns: &[usize]) -> i64
+    requires { ⌜ Sound (plan (now levels) (now table)) (now runs) × Projection (plan (now levels) (now table)) (now columns) ⌝ }
+    ensures { λ r. ⌜ (let p = plan (now (levels .entry)) (now (table .entry)) in
+        r ≡ wordOf (level p) (entry p) (now (runs .entry)) (now (columns .entry))) ⌝ }
+{
+    if MOST_COUNTED < columns.len() {
+        return word_by_pairs(levels, table, runs, columns);
+    }
+    if runs.len() < FEW_RUNS {
+        return word_by_pairs(levels, table, runs, columns);
+    }
+    word_by_counts(levels, table, runs, columns)
+}
+
+// The same for one set of a walk over many, which lends the counters: fewer runs are worth counting.
+fn word_in_walk(
+    levels: &[u8],
+    table: &[u8],
+    runs: &[usize],
+    columns: &[usize],
+    counters: &mut [u16; 65536],
+) -> i64
+    requires { ⌜ Sound (plan (now levels) (now table)) (now runs) × Projection (plan (now levels) (now table)) (now columns) ⌝ }
+    requires { ⌜ now counters ≡ counted [] ⌝ }
+    ensures word { λ r. ⌜ (let p = plan (now (levels .entry)) (now (table .entry)) in
+        r ≡ wordOf (level p) (entry p) (now (runs .entry)) (now (columns .entry))) ⌝ }
+    ensures counters { λ _. ⌜ now (counters .exit) ≡ counted [] ⌝ }
+{
+    if MOST_COUNTED < columns.len() {
+        return word_by_pairs(levels, table, runs, columns);
+    }
+    if runs.len() < FEW_RUNS_OF_A_WALK {
+        return word_by_pairs(levels, table, runs, columns);
+    }
+    counts::parts::word(levels, table, runs, columns, counters)
+}
+
+// W(I) of every run of a plan, by the engine that is named.
+pub(crate) fn set_word_of_plan(
+    levels: &[u8],
+    table: &[u8],
+    columns: &[usize],
+    engine: Engine,
+) -> i64
+    requires { ⌜ Good (plan (now levels) (now table))
+        × (Projection (plan (now levels) (now table)) (now columns) × (length (now columns) ≤ 4)) ⌝ }
     ensures { λ r. ⌜ (let p = plan (now (levels .entry)) (now (table .entry)) in r ≡ wordOf (level p) (entry p) (everyRun p) (now (columns .entry))) ⌝ }
 {
     let n = table.len() / levels.len();
-    let runs = plan::inner::every_run(n);
-    set_word(levels, table, &runs[..n], columns)
+    let numbers = plan::inner::every_run(n);
+    let runs = &numbers[..n];
+    match engine {
+        Engine::Pairs => word_by_pairs(levels, table, runs, columns),
+        Engine::Counts => word_by_counts(levels, table, runs, columns),
+        Engine::Faster => set_word(levels, table, runs, columns),
+    }
 }
 
 // The smallest level of the columns.
@@ -112,13 +183,16 @@ fn word_over(
     runs: &[usize],
     columns: &[usize],
     divisor: u64,
+    counters: &mut [u16; 65536],
 ) -> Fraction
     requires { ⌜ Tabled (plan (now levels) (now table)) (now runs)
         × (Projection (plan (now levels) (now table)) (now columns) × ((1 ≤ divisor) × (divisor < highestLevel))) ⌝ }
-    ensures { λ r. ⌜ (let p = plan (now (levels .entry)) (now (table .entry)) in
+    requires { ⌜ now counters ≡ counted [] ⌝ }
+    ensures value { λ r. ⌜ (let p = plan (now (levels .entry)) (now (table .entry)) in
         r ≡ overPairs p (now (runs .entry)) (now (columns .entry)) divisor) ⌝ }
+    ensures counters { λ _. ⌜ now (counters .exit) ≡ counted [] ⌝ }
 {
-    let word = signed::to_u64(set_word(levels, table, runs, columns));
+    let word = signed::to_u64(word_in_walk(levels, table, runs, columns, counters));
     let n = runs.len() as u64;
     reduced(word, n * n * divisor)
 }
@@ -131,19 +205,22 @@ pub fn value(
     runs: &[usize],
     columns: &[usize],
     relative: bool,
+    counters: &mut [u16; 65536],
 ) -> Fraction
     requires { ⌜ Tabled (plan (now levels) (now table)) (now runs)
         × (Projection (plan (now levels) (now table)) (now columns) × (1 ≤ length (now columns))) ⌝ }
-    ensures { λ r. ⌜ r ≡ valueIn relative (plan (now (levels .entry)) (now (table .entry))) (now (runs .entry)) (now (columns .entry)) ⌝ }
+    requires { ⌜ now counters ≡ counted [] ⌝ }
+    ensures value { λ r. ⌜ r ≡ valueIn relative (plan (now (levels .entry)) (now (table .entry))) (now (runs .entry)) (now (columns .entry)) ⌝ }
+    ensures counters { λ _. ⌜ now (counters .exit) ≡ counted [] ⌝ }
 {
     if !relative {
-        return word_over(levels, table, runs, columns, 1);
+        return word_over(levels, table, runs, columns, 1, counters);
     }
     let lowest = wide(smallest_level(levels, columns));
     if lowest == 1 {
         return Fraction { num: 0, den: 1 };
     }
-    word_over(levels, table, runs, columns, lowest - 1)
+    word_over(levels, table, runs, columns, lowest - 1, counters)
 }
 
 // Refusals 1 to 5, of the plan, and 6, of the projection size.
@@ -162,6 +239,24 @@ pub fn check_size(levels: &[u8], table: &[u8], f: usize) -> Refusal
     }
     if levels.len() < f {
         return Refusal::plain(6);
+    }
+    refused
+}
+
+// Refusals 1 to 5, 6, and 8, of the set.
+pub(crate) fn check_set(levels: &[u8], table: &[u8], f: usize, set: &[usize]) -> Refusal
+    ensures { λ r. ⌜ (let p = plan (now (levels .entry)) (now (table .entry)) in
+        r ≡ refusal (ofPlan p (badSize (columns p) f ∷ badSet (columns p) f (now (set .entry)) ∷ []))) ⌝ }
+{
+    let refused = check_size(levels, table, f);
+    if refused.number != 0 {
+        return refused;
+    }
+    if set.len() != f {
+        return Refusal::plain(8);
+    }
+    if !sets::inner::is_set(levels.len(), set) {
+        return Refusal::plain(8);
     }
     refused
 }

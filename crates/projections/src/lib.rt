@@ -13,29 +13,38 @@ pub struct SetWordAnswer {
     pub word: i64,
 }
 
+// How W(I) is worked out: from the pairs of runs, from the counts of level combinations, or as is faster.
+pub enum Engine {
+    Pairs,
+    Counts,
+    Faster,
+}
+
+// W(I) of a set of f columns, by the engine that is named: the answer is the same.
+pub fn set_word_by(
+    levels: &[u8],
+    table: &[u8],
+    f: usize,
+    columns: &[usize],
+    engine: Engine,
+) -> SetWordAnswer
+    ensures { λ r. ⌜ (let p = plan (now (levels .entry)) (now (table .entry)) in
+        r ≡ setWordAnswer p (everyRun p) (ofPlan p) f (now (columns .entry))) ⌝ }
+{
+    let refused = inner::check_set(levels, table, f, columns);
+    if refused.number != 0 {
+        return SetWordAnswer { refused, word: 0 };
+    }
+    SetWordAnswer {
+        refused,
+        word: inner::set_word_of_plan(levels, table, columns, engine),
+    }
+}
+
 // W(I) of a set of f columns.
 pub fn set_word(levels: &[u8], table: &[u8], f: usize, columns: &[usize]) -> SetWordAnswer
     ensures { λ r. ⌜ (let p = plan (now (levels .entry)) (now (table .entry)) in
         r ≡ setWordAnswer p (everyRun p) (ofPlan p) f (now (columns .entry))) ⌝ }
 {
-    let refused = inner::check_size(levels, table, f);
-    if refused.number != 0 {
-        return SetWordAnswer { refused, word: 0 };
-    }
-    if columns.len() != f {
-        return SetWordAnswer {
-            refused: Refusal::plain(8),
-            word: 0,
-        };
-    }
-    if !sets::inner::is_set(levels.len(), columns) {
-        return SetWordAnswer {
-            refused: Refusal::plain(8),
-            word: 0,
-        };
-    }
-    SetWordAnswer {
-        refused,
-        word: inner::set_word_of_plan(levels, table, columns),
-    }
+    set_word_by(levels, table, f, columns, Engine::Faster)
 }

@@ -94,11 +94,12 @@ fn ratios_of(
         r ≡ ratiosOf p (now (runs .entry)) (choose size (now (columns .entry))) column) ⌝ }
 {
     let many = binomial(columns.len(), size);
+    let mut counters = [0u16; 65536];
     let mut largest = Fraction { num: 0, den: 1 };
     let mut held = Fraction { num: 0, den: 1 };
     for k in 0..many {
         let set = set_of(columns, size, k);
-        let ratio = value(levels, table, runs, &set[..size], true);
+        let ratio = value(levels, table, runs, &set[..size], true, &mut counters);
         largest = greater(largest, ratio);
         if holds(&set[..size], column) {
             held = greater(held, ratio);

@@ -1,6 +1,6 @@
 -- `frequencies::inner::tabulate` meets its contract: after the sets before place k, the rooms hold the table of their values.
 use mathlib.Core.Path.{_≡_, sym, _∙_, ap}
-use mathlib.Core.List.{List}
+use mathlib.Core.List.{List, []}
 use Prim.Native.Nat.{ℕ, _-_, _≤_, _<_}
 use native.Mathlib.Omega.{arith}
 use lib.ListN.{length, take}
@@ -8,6 +8,8 @@ use Rattle.exact.specs.Fractions.{ShortDenominator}
 use Rattle.exact.specs.declared.fractions.Fraction.{Fraction}
 use Rattle.rules.specs.Plan.{Plan, plan, columns}
 use Rattle.sets.specs.Sets.{binom, setAt}
+use Rattle.counts.specs.Parts.{counted}
+use Rattle.counts.proofs.Squared.{counted-none}
 use Rattle.projections.specs.Projections.{valueIn}
 use Rattle.frequencies.specs.Frequencies.{Rooms, rooms}
 use Rattle.frequencies.proofs.Walks.{Walked, walked-none, walked-same, walked-fillable, walked-next}
@@ -18,12 +20,12 @@ use Rattle.frequencies.proofs.inner.tabulate.Statement.{statement}
 use Rattle.frequencies.proofs.inner.tabulate.Tie as tie
 
 abbrev Inv-loop : tie.InvT-loop
-Inv-loop levels table runs f relative nums₀ dens₀ counts₀ m used₀ k₀ k-end nums dens counts used k =
-    (k ≤ k-end) × (k-end ≡ binom (length levels) f) ×
+Inv-loop levels table runs f relative nums₀ dens₀ counts₀ m counters₀ used₀ k₀ k-end nums dens counts counters used k =
+    (k ≤ k-end) × (k-end ≡ binom (length levels) f) × (counters ≡ counted []) ×
     Walked (λ j. valueIn relative (plan levels table) runs (setAt (length levels) f j)) (rooms nums₀ dens₀ counts₀) (rooms nums dens counts) k used
 
 abbrev μ-loop : tie.MeasureT-loop
-μ-loop levels table runs f relative nums₀ dens₀ counts₀ m used₀ k₀ k-end nums dens counts used k = k-end - k
+μ-loop levels table runs f relative nums₀ dens₀ counts₀ m counters₀ used₀ k₀ k-end nums dens counts counters used k = k-end - k
 
 -- what the function is given, from the head of the loop
 abbrev start : tie.At-loop Inv-loop μ-loop → tie.Start Inv-loop μ-loop
@@ -63,7 +65,7 @@ binomial-requires c κs =
 loop-holds : tie.Need-loop-holds Inv-loop μ-loop
 loop-holds c =
     let s = c .before .before .before .before .before .before .before in
-    (omega arith, c .binomial .ensures, walked-none (valueFor s) (lent s))
+    (omega arith, c .binomial .ensures, counted-none, walked-none (valueFor s) (lent s))
 
 -- the place of this turn is that of a set
 inside : (c : tie.In-loop Inv-loop μ-loop) → c .before .loop .k < all (start (c .before))
@@ -95,29 +97,31 @@ slice-aggregate-value c =
 
 value-requires : tie.Need-value-requires Inv-loop μ-loop
 value-requires c κs =
-    let b = c .before in
+    let b = c .before .before in
     let s = start (here b) in
-    let a = s .args in
-    rw (chosen b) (
-      s .pre .0,
-      (
-        set-projection (a .relative) (given s) (a .runs .now) (a .f) (s .pre .0) (s .pre .1 .0) (here b .loop .k) (inside (b .before)),
-        set-some (a .relative) (given s) (a .runs .now) (a .f) (s .pre .0) (s .pre .1 .0) (here b .loop .k) (inside (b .before)),
+    let a = s .args in (
+      rw (chosen b) (
+        s .pre .0,
+        (
+          set-projection (a .relative) (given s) (a .runs .now) (a .f) (s .pre .0) (s .pre .1 .0) (here b .loop .k) (inside (b .before)),
+          set-some (a .relative) (given s) (a .runs .now) (a .f) (s .pre .0) (s .pre .1 .0) (here b .loop .k) (inside (b .before)),
+        ),
       ),
+      here b .loop .inv .2,
     )
 
 -- its value
 valued : (c : tie.After-value Inv-loop μ-loop) →
-    let d = c .before .before .before .before in c .value .result ≡ valueFor (start d) (d .loop .k)
-valued c = rw (c .value .ensures, chosen (c .before .before))
+    let d = c .before .before .before .before .before in c .value .result ≡ valueFor (start d) (d .loop .k)
+valued c = rw (c .value .ensures .0, chosen (c .before .before .before))
 
 count-value-requires : tie.Need-count-value-requires Inv-loop μ-loop
 count-value-requires c κs =
     let v = c .before .before .before in
-    let i = v .before .before .before in
+    let i = v .before .before .before .before in
     let d = i .before in
     let s = start d in (
-      walked-fillable (valueFor s) (all s) (short s) (lent s) (held d) (d .loop .k) (d .loop .used) (s .pre .1 .1) (d .loop .inv .2) (inside i)
+      walked-fillable (valueFor s) (all s) (short s) (lent s) (held d) (d .loop .k) (d .loop .used) (s .pre .1 .1) (d .loop .inv .3) (inside i)
           (omega (arith, few s)),
       rw (valued v) (short s (d .loop .k) (inside i)),
     )
@@ -127,7 +131,7 @@ abbrev turn : tie.After-slice-known6 Inv-loop μ-loop → tie.After-count-value 
 turn c = c .before .before .before .before .before .before
 
 abbrev tested : tie.After-slice-known6 Inv-loop μ-loop → tie.In-loop Inv-loop μ-loop
-tested c = turn c .before .before .before .before .before .before .before
+tested c = turn c .before .before .before .before .before .before .before .before
 
 add-k : tie.Need-add-k Inv-loop μ-loop
 add-k c = omega (arith, few (start (tested c .before)), inside (tested c))
@@ -143,7 +147,8 @@ loop-again c =
     let counted = turn c .count-value in (
       omega (arith, tested c .loop-test .taken),
       d .loop .inv .1,
-      walked-next (valueFor s) (all s) (short s) (lent s) (held d) (d .loop .k) (d .loop .used) (s .pre .1 .1) (d .loop .inv .2) (inside (tested c))
+      v .value .ensures .1,
+      walked-next (valueFor s) (all s) (short s) (lent s) (held d) (d .loop .k) (d .loop .used) (s .pre .1 .1) (d .loop .inv .3) (inside (tested c))
           (v .value .result) (counted .result) _ (valued v) (counted .ensures .0) (counted .ensures .1),
     )
 
@@ -153,7 +158,7 @@ module _ (c : tie.After-loop Inv-loop μ-loop) where
   entered = start (c .before)
 
   done : Walked (valueFor entered) (lent entered) (held (c .before)) (all entered) (c .before .loop .used)
-  done = let z : c .before .loop .k ≡ all entered = omega (arith, c .before .loop .inv .1) in rw z at (c .before .loop .inv .2)
+  done = let z : c .before .loop .k ≡ all entered = omega (arith, c .before .loop .inv .1) in rw z at (c .before .loop .inv .3)
 
   lengths :
       let R = held (c .before) in

@@ -17,9 +17,11 @@ word-over-requires c κs = search needs
 
 returns : tie.Need-returns
 returns c =
-    let a = c .before .before .before .before .before .before .args in
-    rw (not-true (a .relative) (c .before .if1 .taken))
-    (c .word-over .ensures ∙ value-plain (plan (a .levels .now) (a .table .now)) (a .runs .now) (a .columns .now))
+    let a = c .before .before .before .before .before .before .before .args in (
+      rw (not-true (a .relative) (c .before .before .if1 .taken))
+          (c .word-over .ensures .0 ∙ value-plain (plan (a .levels .now) (a .table .now)) (a .runs .now) (a .columns .now)),
+      c .word-over .ensures .1,
+    )
 
 smallest-level-requires : tie.Need-smallest-level-requires
 smallest-level-requires c κs = search needs
@@ -42,35 +44,39 @@ between c =
       arith,
       lowest w,
       c .if2 .left,
-      level-between (plan (a .levels .now) (a .table .now)) (a .runs .now) (a .columns .now) (s .pre .0) (s .pre .1 .0) (s .pre .1 .1),
+      level-between (plan (a .levels .now) (a .table .now)) (a .runs .now) (a .columns .now) (s .pre .0 .0) (s .pre .0 .1 .0) (s .pre .0 .1 .1),
     )
 
 returns-2 : tie.Need-returns-2
 returns-2 c =
     let w = c .before in
     let s = w .before .before .before .before .before .before .before in
-    let a = s .args in
-    rw (not-false (a .relative) (w .before .before .if1 .left))
-    (value-one (plan (a .levels .now) (a .table .now)) (a .runs .now) (a .columns .now) (s .pre .1 .1) (sym (lowest w) ∙ c .if2 .taken))
+    let a = s .args in (
+      rw (not-false (a .relative) (w .before .before .if1 .left))
+          (value-one (plan (a .levels .now) (a .table .now)) (a .runs .now) (a .columns .now) (s .pre .0 .1 .1) (sym (lowest w) ∙ c .if2 .taken)),
+      s .pre .1,
+    )
 
 sub-word-over : tie.Need-sub-word-over
 sub-word-over c = omega (arith, between c)
 
 word-over-requires-2 : tie.Need-word-over-requires-2
 word-over-requires-2 c κs =
-    let s = c .before .before .before .before .before .before .before .before in
-    let (low, high) = between c in
-    (s .pre .0, (s .pre .1 .0, (omega arith, omega arith)))
+    let s = c .before .before .before .before .before .before .before .before .before in
+    let (low, high) = between (c .before) in
+    ((s .pre .0 .0, (s .pre .0 .1 .0, (omega arith, omega arith))), s .pre .1)
 
 returns-3 : tie.Need-returns-3
 returns-3 c =
-    let w = c .before .before in
+    let w = c .before .before .before in
     let s = w .before .before .before .before .before .before .before in
     let a = s .args in
-    let p = plan (a .levels .now) (a .table .now) in
-    rw (not-false (a .relative) (w .before .before .if1 .left))
-    (c .word-over2 .ensures ∙ ap (λ l. overPairs p (a .runs .now) (a .columns .now) (l - 1)) (lowest w)
-    ∙ value-several p (a .runs .now) (a .columns .now) (subst (λ l. 2 ≤ l) (lowest w) (between (c .before) .0)))
+    let p = plan (a .levels .now) (a .table .now) in (
+      rw (not-false (a .relative) (w .before .before .if1 .left))
+          (c .word-over2 .ensures .0 ∙ ap (λ l. overPairs p (a .runs .now) (a .columns .now) (l - 1)) (lowest w)
+          ∙ value-several p (a .runs .now) (a .columns .now) (subst (λ l. 2 ≤ l) (lowest w) (between (c .before .before) .0))),
+      c .word-over2 .ensures .1,
+    )
 
 pub value-spec : {M : Type 1} → statement M
 value-spec =

@@ -16,48 +16,51 @@ use borrow.Author.Needs.{needs}
 use Rattle.projections.proofs.inner.word_over.Statement.{statement}
 use Rattle.projections.proofs.inner.word_over.Tie as tie
 
-set-word-requires : tie.Need-set-word-requires
-set-word-requires c κs = search needs
+word-in-walk-requires : tie.Need-word-in-walk-requires
+word-in-walk-requires c κs = search needs
 
 -- W(I), read back from its bits
-word : (c : tie.After-set-word) →
-    let a = c .before .before .before .before .before .args in
+word : (c : tie.After-word-in-walk) →
+    let a = c .before .before .before .before .before .before .args in
     let p = plan (a .levels .now) (a .table .now) in
-    toZ w64 (ofZ w64 (c .set-word .result)) ≡ wordOf (level p) (entry p) (a .runs .now) (a .columns .now)
-word c = of (c .set-word .result) (c .set-word .ok) ∙ c .set-word .ensures
+    toZ w64 (ofZ w64 (c .word-in-walk .result)) ≡ wordOf (level p) (entry p) (a .runs .now) (a .columns .now)
+word c = of (c .word-in-walk .result) (c .word-in-walk .ok) ∙ c .word-in-walk .ensures .0
 
 to-u64-requires : tie.Need-to-u64-requires
 to-u64-requires c κs =
-    let s = c .before .before .before .before .before in
+    let s = c .before .before .before .before .before .before in
     let a = s .args in
-    rw (word c) (word-nonneg (plan (a .levels .now) (a .table .now)) (a .runs .now) (a .columns .now) (s .pre .0 .sound) (s .pre .1 .0))
+    rw (word c) (word-nonneg (plan (a .levels .now) (a .table .now)) (a .runs .now) (a .columns .now) (s .pre .0 .0 .sound) (s .pre .0 .1 .0))
 
 module _ (s : tie.Start) where
   pairs : let n = length (s .args .runs .now) in n * n ≤ 65_536
-  pairs = let a = s .args in few-pairs (plan (a .levels .now) (a .table .now)) (a .runs .now) (s .pre .0)
+  pairs = let a = s .args in few-pairs (plan (a .levels .now) (a .table .now)) (a .runs .now) (s .pre .0 .0)
 
   denominator :
       let n = length (s .args .runs .now) in (1 ≤ n * n * s .args .divisor) × (n * n * s .args .divisor ≤ 983_040)
   denominator =
       let a = s .args in
-      over-between (plan (a .levels .now) (a .table .now)) (a .runs .now) (a .columns .now) (s .pre .0) (a .divisor) (s .pre .1 .1 .0) (s .pre .1 .1 .1)
+      over-between (plan (a .levels .now) (a .table .now)) (a .runs .now) (a .columns .now) (s .pre .0 .0) (a .divisor) (s .pre .0 .1 .1 .0) (s .pre .0 .1 .1 .1)
 
 mul-reduced : tie.Need-mul-reduced
-mul-reduced c = omega (arith, pairs (c .before .before .before .before .before .before))
+mul-reduced c = omega (arith, pairs (c .before .before .before .before .before .before .before))
 
 mul-reduced-2 : tie.Need-mul-reduced-2
-mul-reduced-2 c = omega (arith, denominator (c .before .before .before .before .before .before))
+mul-reduced-2 c = omega (arith, denominator (c .before .before .before .before .before .before .before))
 
 reduced-requires : tie.Need-reduced-requires
-reduced-requires c κs = denominator (c .before .before .before .before .before .before) .0
+reduced-requires c κs = denominator (c .before .before .before .before .before .before .before) .0
 
 returns : tie.Need-returns
 returns c =
     let w = c .before in
-    let n = length (w .before .before .before .before .before .before .args .runs .now) in
-    c .reduced .ensures ∙ ap (λ x. reduced (natAbs x) (n * n * w .before .before .before .before .before .before .args .divisor)) (w .to-u64 .ensures ∙ word (w .before))
+    let a = w .before .before .before .before .before .before .before .args in
+    let n = length (a .runs .now) in (
+      c .reduced .ensures ∙ ap (λ x. reduced (natAbs x) (n * n * a .divisor)) (w .to-u64 .ensures ∙ word (w .before)),
+      w .before .word-in-walk .ensures .1,
+    )
 
 pub word-over-spec : {M : Type 1} → statement M
 word-over-spec =
     tie.close
-    (tie.spec set-word-requires to-u64-requires mul-reduced mul-reduced-2 reduced-requires returns)
+    (tie.spec word-in-walk-requires to-u64-requires mul-reduced mul-reduced-2 reduced-requires returns)

@@ -2,7 +2,7 @@
 use mathlib.Core.Path.{_≡_, sym, _∙_, ap, ap₂}
 use mathlib.Core.Bool.{true}
 use mathlib.Core.Logic.{⊎-elim}
-use mathlib.Core.List.{List}
+use mathlib.Core.List.{List, []}
 use Prim.Native.Nat.{ℕ, _-_, _≤_, _<_}
 use native.Mathlib.Omega.{arith}
 use lib.ListN.{length, take}
@@ -12,6 +12,8 @@ use Rattle.exact.specs.Fractions.{ShortDenominator}
 use Rattle.rules.specs.Plan.{Plan, plan, level, entry}
 use Rattle.sets.specs.Sets.{binom}
 use Rattle.exact.specs.declared.fractions.Fraction.{Fraction}
+use Rattle.counts.specs.Parts.{counted}
+use Rattle.counts.proofs.Squared.{counted-none}
 use Rattle.projections.specs.Given.{Projection}
 use Rattle.projections.specs.Projections.{relativeOf}
 use Rattle.sets.proofs.Among.{chosen, there, enough, chosen-front}
@@ -25,12 +27,12 @@ use Rattle.resolution.proofs.inner.ratios_of.Statement.{statement}
 use Rattle.resolution.proofs.inner.ratios_of.Tie as tie
 
 abbrev Inv-loop : tie.InvT-loop
-Inv-loop levels table runs columns size column many largest₀ held₀ k₀ largest held k =
+Inv-loop levels table runs columns size column many counters₀ largest₀ held₀ k₀ counters largest held k =
     let b = before (plan levels table) runs columns column size in
-    (many ≡ binom (length columns) size) × (k ≤ many) × (largest ≡ b k .largest) × (held ≡ b k .held)
+    (many ≡ binom (length columns) size) × (k ≤ many) × (largest ≡ b k .largest) × (held ≡ b k .held) × (counters ≡ counted [])
 
 abbrev μ-loop : tie.MeasureT-loop
-μ-loop levels table runs columns size column many largest₀ held₀ k₀ largest held k = many - k
+μ-loop levels table runs columns size column many counters₀ largest₀ held₀ k₀ counters largest held k = many - k
 
 binomial-requires : tie.Need-binomial-requires Inv-loop μ-loop
 binomial-requires c κs = search needs
@@ -39,7 +41,7 @@ loop-holds : tie.Need-loop-holds Inv-loop μ-loop
 loop-holds c =
     let a = c .before .before .before .before .before .args in
     let p = plan (a .levels .now) (a .table .now) in
-    (c .binomial .ensures, omega arith, largest-none p (a .runs .now) (a .column), held-none p (a .runs .now) (a .column))
+    (c .binomial .ensures, omega arith, largest-none p (a .runs .now) (a .column), held-none p (a .runs .now) (a .column), counted-none)
 
 set-of-requires : tie.Need-set-of-requires Inv-loop μ-loop
 set-of-requires c κs =
@@ -97,41 +99,41 @@ slice-aggregate-value : tie.Need-slice-aggregate-value Inv-loop μ-loop
 slice-aggregate-value c = long (c .before)
 
 value-requires : tie.Need-value-requires Inv-loop μ-loop
-value-requires c κs = let s = c .before in (start s .pre .0 .0, rw (lent s) (projection s))
+value-requires c κs = let s = c .before .before in ((start s .pre .0 .0, rw (lent s) (projection s)), loop s .loop .inv .4)
 
 -- its ratio
 module _ (c : tie.After-value Inv-loop μ-loop) where
-  ratio : c .value .result ≡ let s = c .before .before in relativeOf (level (given s)) (entry (given s)) (runs s) (set s)
-  ratio = let s = c .before .before in rw (lent s) at (c .value .ensures)
+  ratio : c .value .result ≡ let s = c .before .before .before in relativeOf (level (given s)) (entry (given s)) (runs s) (set s)
+  ratio = let s = c .before .before .before in rw (lent s) at (c .value .ensures .0)
 
   short : ShortDenominator (c .value .result)
   short =
-      let s = c .before .before in
+      let s = c .before .before .before in
       rw ratio (value-short (given s) (runs s) (set s) (start s .pre .0 .0) (projection s .0) (projection s .1) true)
 
 greater-requires : tie.Need-greater-requires Inv-loop μ-loop
 greater-requires c κs =
-    let s = c .before .before in
+    let s = c .before .before .before in
     (largest-fits s, short c)
 
 array-share-prefix-set-2 : tie.Need-array-share-prefix-set-2 Inv-loop μ-loop
 array-share-prefix-set-2 c = search needs
 
 slice-aggregate-holds : tie.Need-slice-aggregate-holds Inv-loop μ-loop
-slice-aggregate-holds c = long (c .before .before .before .before)
+slice-aggregate-holds c = long (c .before .before .before .before .before)
 
 holds-requires : tie.Need-holds-requires Inv-loop μ-loop
 holds-requires c κs = search needs
 
 -- whether it holds the column
 holding : (c : tie.After-holds Inv-loop μ-loop) →
-    let s = c .before .before .before .before .before in c .holds .result ≡ holds (start s .args .column) (set s)
-holding c = rw (lent (c .before .before .before .before .before)) at (c .holds .ensures)
+    let s = c .before .before .before .before .before .before in c .holds .result ≡ holds (start s .args .column) (set s)
+holding c = rw (lent (c .before .before .before .before .before .before)) at (c .holds .ensures)
 
 greater-requires-2 : tie.Need-greater-requires-2 Inv-loop μ-loop
 greater-requires-2 c κs =
     let v = c .before .before .before .before in
-    let s = v .before .before in
+    let s = v .before .before .before in
     (held-fits s, short v)
 
 add-k : tie.Need-add-k Inv-loop μ-loop
@@ -144,7 +146,7 @@ loop-again : tie.Need-loop-again Inv-loop μ-loop
 loop-again c =
     let h = c .before in
     let v = h .before .before .before in
-    let s = v .before .before in
+    let s = v .before .before .before in
     let l = loop s .loop in
     let i = start s .args .column in (
       loop s .before .binomial .ensures,
@@ -156,6 +158,7 @@ loop-again c =
           ∙ sym (held-next (given s) (runs s) (cols s) i (size s) (l .k) (inside s) (sym (holding h) ∙ w .0 .taken)))
           (λ w. w .1 ∙ l .inv .3 ∙ sym (other-next (given s) (runs s) (cols s) i (size s) (l .k) (inside s) (sym (holding h) ∙ w .0 .left)))
           (c .if1 .came),
+      v .value .ensures .1,
     )
 
 abbrev ratiosPair : Fraction → Fraction → Ratios

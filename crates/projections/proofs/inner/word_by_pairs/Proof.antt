@@ -1,4 +1,4 @@
--- `projections::inner::set_word` meets its contract: from the last run down, W(I) of the runs from k on, one run more each turn.
+-- `projections::inner::word_by_pairs` meets its contract: from the last run down, W(I) of the runs from k on, one run more each turn.
 use mathlib.Core.Path.{_≡_, _∙_}
 use mathlib.Core.List.{List, List·Memᴰ}
 use Prim.Native.Nat.{ℕ, _+_, _-_, _*_, _≤_, _<_}
@@ -15,8 +15,8 @@ use Rattle.rules.specs.Plan.{Plan, plan, level, entry, mostRuns, highestProduct
 use Rattle.words.specs.Words.{wordOf}
 use Rattle.projections.specs.Given.{pairOf}
 use Rattle.projections.proofs.SetWords.{run-starts, start-small, row-small, word-none, word-small, word-turn}
-use Rattle.projections.proofs.inner.set_word.Statement.{statement}
-use Rattle.projections.proofs.inner.set_word.Tie as tie
+use Rattle.projections.proofs.inner.word_by_pairs.Statement.{statement}
+use Rattle.projections.proofs.inner.word_by_pairs.Tie as tie
 
 abbrev Inv-loop : tie.InvT-loop
 Inv-loop levels table runs columns m word₀ k₀ word k =
@@ -149,8 +149,8 @@ loop-again c = (omega arith, of (c .add2 .result) (c .add2 .ok) ∙ c .add2 .ens
 returns : tie.Need-returns Inv-loop μ-loop
 returns c = let z : c .before .loop .k ≡ 0 = omega arith in rw z at (c .before .loop .inv .1)
 
-pub set-word-spec : {M : Type 1} → statement M
-set-word-spec =
+pub word-by-pairs-spec : {M : Type 1} → statement M
+word-by-pairs-spec =
     tie.close
     (tie.spec
     Inv-loop

@@ -1,0 +1,19 @@
+-- `projections::inner::word_by_counts` meets its contract: the counters that it makes are all zero.
+use Rattle.rules.specs.Plan.{plan}
+use Rattle.counts.proofs.Squared.{counted-none}
+use Rattle.projections.proofs.SetWords.{counted-columns}
+use borrow.Author.Needs.{needs}
+use Rattle.projections.proofs.inner.word_by_counts.Statement.{statement}
+use Rattle.projections.proofs.inner.word_by_counts.Tie as tie
+
+word-requires : tie.Need-word-requires
+word-requires c κs =
+    let s = c .before .before .before .before .before in
+    let a = s .args in
+    (s .pre .0, ((counted-columns (plan (a .levels .now) (a .table .now)) (a .runs .now) (a .columns .now) (s .pre .0) (s .pre .1 .0), s .pre .1 .1), counted-none))
+
+returns : tie.Need-returns
+returns c = search needs
+
+pub word-by-counts-spec : {M : Type 1} → statement M
+word-by-counts-spec = tie.close (tie.spec word-requires returns)
