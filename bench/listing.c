@@ -13,14 +13,6 @@ static long combinations(Plan plan, const long *set, long size, long limit)
     return product;
 }
 
-static long combination(Plan plan, const byte *run, const long *set, long size)
-{
-    long number = 0;
-    for (long k = 0; k < size; k++)
-        number = number * plan.levels[set[k]] + run[set[k]];
-    return number;
-}
-
 static int is_even(Plan plan, const Runs *runs, const long *set, long size)
 {
     uint16_t tallies[MOST_RUNS] = { 0 };
@@ -56,7 +48,7 @@ static long strength(Plan plan, const Runs *runs)
 
 /* ---- resolution and the largest ratio */
 
-static long resolution(Plan plan, const long *words)
+long resolution_in_c(Plan plan, const long *words)
 {
     long j = 1;
     while (j <= plan.columns && words[j - 1] <= 0)
@@ -64,25 +56,34 @@ static long resolution(Plan plan, const long *words)
     return j;
 }
 
-static Fraction largest_over(Plan plan, const Runs *runs, long size, uint16_t *counters)
+static Fraction largest_over(Plan plan, const Runs *runs, long size, SetWord *word, uint16_t *counters)
 {
     Fraction largest = { 0, 1 };
     long set[MOST_COLUMNS];
     for (long k = 0; k < binomial(plan.columns, size); k++) {
         set_at(plan.columns, size, k, set);
-        Fraction ratio = value_in_c(plan, runs, set, size, 1, counters);
+        Fraction ratio = value_of(plan, runs, set, size, 1, word(plan, runs, set, size, counters));
         if (compared(largest, ratio) < 0)
             largest = ratio;
     }
     return largest;
 }
 
+typedef Fraction LargestRatio(Plan plan, const Runs *runs, long size);
+
 static Fraction largest_ratio(Plan plan, const Runs *runs, long size)
 {
+    uint16_t counters[COMBINATIONS_AT_RESOLUTION] = { 0 };
+    return largest_over(plan, runs, size, word_at_resolution_in_c, counters);
+}
+
+/* Before request #109: as for a table. */
+static Fraction largest_ratio_before(Plan plan, const Runs *runs, long size)
+{
     if (!is_counted(runs->count, size))
-        return largest_over(plan, runs, size, 0);
+        return largest_over(plan, runs, size, set_word_in_c, 0);
     uint16_t counters[COMBINATIONS] = { 0 };
-    return largest_over(plan, runs, size, counters);
+    return largest_over(plan, runs, size, set_word_in_c, counters);
 }
 
 static long thousandths(long resolution, Fraction ratio)
@@ -93,14 +94,24 @@ static long thousandths(long resolution, Fraction ratio)
     return 1000 * (resolution + 1) - (long)q;
 }
 
-long ratio_in_c(Plan plan, long n)
+static long ratio_by(LargestRatio *largest, Plan plan, long n)
 {
     long words[MOST_COLUMNS];
     Runs runs;
     every_run(n, &runs);
     words_in_c(plan, &runs, words);
-    long size = resolution(plan, words);
-    return size > plan.columns ? -11 : thousandths(size, largest_ratio(plan, &runs, size));
+    long size = resolution_in_c(plan, words);
+    return size > plan.columns ? -11 : thousandths(size, largest(plan, &runs, size));
+}
+
+long ratio_in_c(Plan plan, long n)
+{
+    return ratio_by(largest_ratio, plan, n);
+}
+
+long ratio_before_in_c(Plan plan, long n)
+{
+    return ratio_by(largest_ratio_before, plan, n);
 }
 
 /* ---- advice */
@@ -175,7 +186,7 @@ static byte *write_words(byte *at, const long *words, long columns, uint64_t pai
 
 static byte *write_resolution(byte *at, Plan plan, const Runs *runs, const long *words)
 {
-    long size = resolution(plan, words);
+    long size = resolution_in_c(plan, words);
     if (size > plan.columns)
         return write_line(at, "resolution none", 0, 0);
     Fraction ratio = largest_ratio(plan, runs, size);

@@ -3,7 +3,8 @@
  * agree. With the argument `judged` the words of the largest plan may take at
  * most 1.3 times as long as in C. With `judged` and with `emulated` the words
  * of its sets of four columns have to be 20 times faster by counts than by
- * pairs.
+ * pairs, and the largest ratio over sets of five columns 20 times faster than
+ * by pairs in C.
  */
 #include "algorithms.h"
 #include "timing.h"
@@ -46,10 +47,10 @@ static Times print_timed(const char *name, Work *library, Work *c)
     return times;
 }
 
-static double print_faster(Times times)
+static double print_faster(const char *than, Times times)
 {
     double faster = times.c / (times.library > 0 ? times.library : 1);
-    printf("  times faster than by pairs         %12.1f\n", faster);
+    printf("  times faster than %-17s%12.1f\n", than, faster);
     return faster;
 }
 
@@ -86,7 +87,8 @@ static Times strike_times(void)
     times_struck = 200;
     Times whole = timed(strikes_of_library, strikes_of_c);
     double calls = 2 * times_struck;
-    Times strike = { (whole.library - opening.library) / calls, (whole.c - opening.c) / calls, opening.differ | whole.differ };
+    int differed = opening.differ | whole.differ;
+    Times strike = { (whole.library - opening.library) / calls, (whole.c - opening.c) / calls, differed, whole.answer };
     return strike;
 }
 
@@ -96,7 +98,7 @@ static void time_strikes(long runs, long columns)
     Times strike = strike_times();
     print_line("strike", strike);
     Times recount = print_timed("recount", recount_of_library, recount_of_c);
-    differ |= recount_of_library() != strikes_of_library();
+    differ |= recount.answer != strike.answer;
     printf("  strikes in a recount               %12.1f %12.1f\n", recount.library / strike.library, recount.c / strike.c);
 }
 
@@ -114,7 +116,7 @@ static void time_table_by_pairs(long f)
 {
     const char *name = f == 3 ? "table f = 3, C by pairs" : "table f = 4, C by pairs";
     size = f;
-    print_faster(print_timed(name, table_of_library, table_by_pairs_of_c));
+    print_faster("by pairs", print_timed(name, table_of_library, table_by_pairs_of_c));
 }
 
 /* The library by counts, and in the place of C the library by pairs; how many times faster the one is. */
@@ -122,20 +124,49 @@ static double time_set_words(long f)
 {
     const char *name = f == 3 ? "set words f = 3, by pairs" : "set words f = 4, by pairs";
     size = f;
-    return print_faster(print_timed(name, set_words_by_counts, set_words_by_pairs));
+    return print_faster("by pairs", print_timed(name, set_words_by_counts, set_words_by_pairs));
 }
 
 static void time_ratio(long runs, long columns)
 {
-    make_even(runs, columns);
+    make_with_resolution(3, runs, columns);
     print_timed("generalized resolution", ratio_of_library, ratio_of_c);
+}
+
+/* The walk over the sets of R columns: generalized resolution, less that of a plan of the same size with resolution 1, which works
+ * out the same words and then walks over single columns. */
+static Times walk_times(long resolution)
+{
+    make_with_resolution(resolution, 256, 24);
+    Times whole = turn_by_turn(ratio_of_library, ratio_before_of_c, 1, 1);
+    make_any(n, m);
+    Times words = turn_by_turn(ratio_of_library, ratio_before_of_c, 1, 1);
+    Times walk = { whole.library - words.library, whole.c - words.c, whole.differ | words.differ, whole.answer };
+    return walk;
+}
+
+/* The library against C of before request #109. The largest ratio of these plans is 1. */
+static double time_largest_ratio(const char *name, long resolution)
+{
+    Times walk = walk_times(resolution);
+    walk.differ |= walk.answer != 1000 * resolution;
+    print_line(name, walk);
+    return print_faster("before", walk);
+}
+
+/* How many times faster it is for sets of five columns, which were by pairs before. */
+static double time_largest_ratios(void)
+{
+    time_largest_ratio("largest ratio, R = 3", 3);
+    time_largest_ratio("largest ratio, R = 4", 4);
+    return time_largest_ratio("largest ratio, R = 5", 5);
 }
 
 /* ---- the listing */
 
 static void time_listing(long runs, long columns)
 {
-    make_even(runs, columns);
+    make_with_resolution(3, runs, columns);
     print_timed("listing", listing_of_library, listing_of_c);
 }
 
@@ -184,14 +215,16 @@ static double time_by_pairs(void)
     return time_set_words(4);
 }
 
-static int verdict(int slow, int not_faster)
+static int verdict(int slow, int not_faster, int ratio_not_faster)
 {
     printf(differ ? "the answers differ\n" : "the answers agree\n");
     if (slow)
         printf("the words of the largest plan take more than 1.3 times the time of C\n");
     if (not_faster)
         printf("the words of the largest plan's sets of four columns are not 20 times faster by counts than by pairs\n");
-    return differ || slow || not_faster;
+    if (ratio_not_faster)
+        printf("the largest ratio over sets of five columns is not 20 times faster than before\n");
+    return differ || slow || not_faster || ratio_not_faster;
 }
 
 int main(int count, char **arguments)
@@ -207,7 +240,9 @@ int main(int count, char **arguments)
     time_strikes(64, 12);
     time_strikes(256, 24);
     time_tables();
+    double ratio_faster = time_largest_ratios();
     double faster = time_by_pairs();
     time_all_growth();
-    return verdict(judged && ratio > 1.3, (judged || emulated) && faster < 20);
+    int one_of_both = judged || emulated;
+    return verdict(judged && ratio > 1.3, one_of_both && faster < 20, one_of_both && ratio_faster < 20);
 }

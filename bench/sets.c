@@ -1,6 +1,7 @@
-/* W(I), the word of a set of columns, in two ways: by every pair of different
- * runs once, counted double, and the pairs of a run with itself; or by counts
- * of the combinations in every part of the set, the empty one included.
+/* W(I), the word of a set of columns, in three ways: by every pair of different
+ * runs once, counted double, and the pairs of a run with itself; by counts of
+ * the combinations in every part of the set, the empty one included; or by those
+ * of the whole set and of the empty part alone.
  */
 #include "algorithms.h"
 
@@ -89,7 +90,30 @@ static long word_by_counts(Plan plan, const Runs *runs, const long *set, long si
     return over_parts(&turned, 0, zeros, size % 2 == 0 ? 1 : -1, counters);
 }
 
-/* ---- which of them */
+/* ---- by counts of the whole set */
+
+static long product_of_levels(Plan plan, const long *set, long size)
+{
+    long product = 1;
+    for (long k = 0; k < size; k++)
+        product *= plan.levels[set[k]];
+    return product;
+}
+
+long word_at_resolution_in_c(Plan plan, const Runs *runs, const long *set, long size, uint16_t *counters)
+{
+    uint16_t numbers[MOST_RUNS];
+    long total = 0;
+    for (long k = 0; k < runs->count; k++) {
+        numbers[k] = (uint16_t)combination(plan, start_of(plan, runs->numbers[k]), set, size);
+        total += 2 * counters[numbers[k]]++ + 1;
+    }
+    for (long k = 0; k < runs->count; k++)
+        counters[numbers[k]]--;
+    return product_of_levels(plan, set, size) * total - runs->count * runs->count;
+}
+
+/* ---- which of the first two */
 
 int is_counted(long n, long size)
 {

@@ -71,11 +71,11 @@ static long smallest_level(Plan plan, const long *set, long size)
     return smallest;
 }
 
-Fraction value_in_c(Plan plan, const Runs *runs, const long *set, long size, int relative, uint16_t *counters)
+Fraction value_of(Plan plan, const Runs *runs, const long *set, long size, int relative, long word)
 {
     uint64_t pairs = (uint64_t)(runs->count * runs->count);
     uint64_t less_one = relative ? (uint64_t)smallest_level(plan, set, size) - 1 : 1;
-    return reduced((uint64_t)set_word_in_c(plan, runs, set, size, counters), pairs * less_one);
+    return reduced((uint64_t)word, pairs * less_one);
 }
 
 /* ---- a table: numerators, denominators, counts */
@@ -122,7 +122,8 @@ static void tabulate(Plan plan, long n, long size, int relative, uint16_t *count
     table->lines = 0;
     for (long k = 0; k < binomial(plan.columns, size); k++) {
         set_at(plan.columns, size, k, set);
-        count_value(table, value_in_c(plan, &runs, set, size, relative, counters));
+        long word = set_word_in_c(plan, &runs, set, size, counters);
+        count_value(table, value_of(plan, &runs, set, size, relative, word));
     }
 }
 

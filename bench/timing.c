@@ -28,6 +28,6 @@ Times turn_by_turn(Work *library, Work *c, long calls, int rounds)
         spent += take(&ours, library, calls);
         spent += take(&theirs, c, calls);
     }
-    Times times = { (double)ours.least / calls, (double)theirs.least / calls, ours.answer != theirs.answer };
+    Times times = { (double)ours.least / calls, (double)theirs.least / calls, ours.answer != theirs.answer, ours.answer };
     return times;
 }

@@ -1,5 +1,5 @@
 /* The library and C turn by turn: each time is that of one call, the best of
- * several rounds, in microseconds of the processor.
+ * several rounds, in microseconds of the processor; the answer is the library's.
  */
 #ifndef TIMING_H
 #define TIMING_H
@@ -10,6 +10,7 @@ typedef long Work(void);
 typedef struct {
     double library, c;
     int differ;
+    long answer;
 } Times;
 
 /* So many calls make a turn, and there are so many rounds at least. */

@@ -42,16 +42,46 @@ static void write_text(void)
     }
 }
 
-/* Column i is the parity of the bits that the run's number and i + 1 share. */
-void make_even(long runs, long columns)
+/* An entry is the parity of the bits that the run's number and the column's vector share. */
+static void make_parities(long runs, long columns, const long *vectors)
 {
     n = runs;
     m = columns;
     for (long i = 0; i < m; i++)
         levels[i] = 2;
     for (long e = 0; e < n * m; e++)
-        table[e] = __builtin_parityl((e / m) & (e % m + 1));
+        table[e] = __builtin_parityl((e / m) & vectors[e % m]);
     write_text();
+}
+
+/* Of how few vectors each number is a sum, when one more vector joins them. */
+static void join(long vector, byte *fewest)
+{
+    for (long v = 0; v < MOST_RUNS; v++)
+        if (fewest[v] + 1 < fewest[v ^ vector])
+            fewest[v ^ vector] = (byte)(fewest[v] + 1);
+}
+
+/* The runs' numbers in rising order, without those that are a sum of R - 2 or fewer of the vectors before them: then no R - 1
+ * vectors or fewer add up to zero. */
+static long vectors_with_resolution(long resolution, long runs, long columns, long *vectors)
+{
+    byte fewest[MOST_RUNS];
+    long count = 0;
+    for (long v = 0; v < MOST_RUNS; v++)
+        fewest[v] = v == 0 ? 0 : MOST_COLUMNS + 1;
+    for (long v = 1; v < runs && count < columns; v++)
+        if (fewest[v] > resolution - 2) {
+            vectors[count++] = v;
+            join(v, fewest);
+        }
+    return count;
+}
+
+void make_with_resolution(long resolution, long runs, long columns)
+{
+    long vectors[MOST_COLUMNS];
+    make_parities(runs, vectors_with_resolution(resolution, runs, columns, vectors), vectors);
 }
 
 /* ---- words */
@@ -158,6 +188,11 @@ long ratio_of_library(void)
 long ratio_of_c(void)
 {
     return ratio_in_c(plan(), n);
+}
+
+long ratio_before_of_c(void)
+{
+    return ratio_before_in_c(plan(), n);
 }
 
 /* ---- the listing */

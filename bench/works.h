@@ -10,8 +10,8 @@ extern long n, m, size, times_struck;
 /* Any entries: four columns of three levels, the others of two. */
 void make_any(long runs, long columns);
 
-/* Two levels and strength 2, with its text. */
-void make_even(long runs, long columns);
+/* Two levels and strength R - 1, with its text; as many columns as there are, where those are fewer. */
+void make_with_resolution(long resolution, long runs, long columns);
 
 /* The word of length 3: of all runs, in C also by every ordered pair of them; of
  * all but run 0, which was struck after so many rounds; and of all but run 0,
@@ -23,7 +23,7 @@ long recount_of_library(void), recount_of_c(void);
 
 long table_of_library(void), table_of_c(void), table_by_pairs_of_c(void);
 long set_words_by_counts(void), set_words_by_pairs(void); /* both of the library */
-long ratio_of_library(void), ratio_of_c(void);
+long ratio_of_library(void), ratio_of_c(void), ratio_before_of_c(void);
 long listing_of_library(void), listing_of_c(void);
 
 #endif

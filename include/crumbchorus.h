@@ -55,9 +55,11 @@ int64_t crumb_word(const uint8_t *levels, size_t columns,
  * The listing has the runs and columns, a line for each word (length,
  * numerator, denominator; a reduced fraction), the strength, the resolution
  * with the largest ratio and the generalized resolution in thousandths, and
- * the run advised for loss. For a text that is refused it is one line,
- * `refused`, the number and its two places; 13 is a text of more than 32,768
- * bytes, 14 a malformed line, and the others are those above.
+ * the run advised for loss. The resolution is always the strength and one,
+ * or `none` where the strength is the number of columns. For a text that is
+ * refused it is one line, `refused`, the number and its two places; 13 is a
+ * text of more than 32,768 bytes, 14 a malformed line, and the others are
+ * those above.
  *
  * It goes to the front of `room`, without a byte 0 behind it, and the answer
  * is the number of its bytes, 2048 at most. The room's other bytes stay as

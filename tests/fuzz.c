@@ -13,8 +13,9 @@
  * corpus for the rest of the run.
  *
  * The reference is slow, so the figures of a larger plan are not compared:
- * then the form of the listing is looked at, and its words against
- * crumb_word; a word must not be negative. How many those were is printed.
+ * then the form of the listing is looked at, its words against crumb_word,
+ * its resolution against its strength, and its ratio, which is 1 at most; a
+ * word must not be negative. How many those were is printed.
  */
 #include "fuzz_writers.h"
 #include "fuzz_sets.h"
@@ -120,18 +121,26 @@ static const byte *words_lines(const byte *at, const Read *plan, long runs)
     return at;
 }
 
+/* The lines of a resolution that exists: it is the strength and one, and the ratio is 1 at most. */
+static const byte *resolution_lines(const byte *at, long strength)
+{
+    long resolution = 0, ratio[2] = { 0 }, gr = 0;
+    at = line(line(line(at, "resolution", &resolution, 1), "ratio", ratio, 2), "gr", &gr, 1);
+    return resolution == strength + 1 && ratio[0] <= ratio[1] ? at : 0;
+}
+
 /* Whether what stands in `wanted` has the form of a listing of this plan. */
 static int has_form(const Read *plan, long length)
 {
-    long runs = plan->entries / plan->columns, numbers[3] = { 0 };
+    long runs = plan->entries / plan->columns, numbers[2] = { 0 }, strength = 0;
     wanted[length] = 0;
     const byte *at = line(wanted, "plan", numbers, 2);
     if (numbers[0] != runs || numbers[1] != plan->columns)
         return 0;
     at = words_lines(at, plan, runs);
-    at = line(at, "strength", numbers, 1);
-    const byte *none = line(at, "resolution none", numbers, 0);
-    at = none ? none : line(line(line(at, "resolution", numbers, 1), "ratio", numbers, 2), "gr", numbers, 1);
+    at = line(at, "strength", &strength, 1);
+    const byte *none = strength == plan->columns ? line(at, "resolution none", numbers, 0) : 0;
+    at = none ? none : resolution_lines(at, strength);
     at = runs < 2 ? line(at, "lose none", numbers, 0) : line(at, "lose", numbers, 1);
     return at == wanted + length;
 }

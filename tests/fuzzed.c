@@ -29,9 +29,9 @@ void finish(void)
     print_tally(&writes);
     print_tally(&rewrites);
     print_tally(&sets);
-    printf("the reference by definition and by its short cut: %ld differ\n", reference_disagreements);
+    int fails = reference_fails();
     printf("%s: %ld differ\n", differences == 0 ? "the same" : "NOT the same", differences);
-    exit(differences != 0 || reference_disagreements != 0);
+    exit(differences != 0 || fails);
 }
 
 static void print_input(void)

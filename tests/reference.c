@@ -1,5 +1,7 @@
 #include "reference.h"
 
+int printf(const char *format, ...);
+
 typedef __int128 wide;
 
 /* ---- refusals 1 to 5 */
@@ -63,7 +65,7 @@ static Plan whole(const byte *levels, long columns, const byte *table, long entr
 /* The definition itself is taken up to so many columns. */
 enum { SMALL = 10 };
 
-long reference_disagreements;
+static long disagreements;
 
 /* Good until it is asked for again. */
 static Plan without_one_level(const Plan *p)
@@ -91,7 +93,7 @@ static int both_ways(const Plan *p, const Plan *several)
 /* What the definition gives, where the short cut has to give the same. */
 static long agreed(long literal, long short_cut)
 {
-    reference_disagreements += literal != short_cut;
+    disagreements += literal != short_cut;
     return literal;
 }
 
@@ -321,17 +323,37 @@ static Fraction largest_ratio(const Plan *p, long size)
     if (!both_ways(p, &several))
         return short_cut;
     Fraction literal = largest_of(p, size);
-    reference_disagreements += less(literal, short_cut) || less(short_cut, literal);
+    disagreements += less(literal, short_cut) || less(short_cut, literal);
     return literal;
 }
 
-/* The smallest q is 1000 at most, since a ratio above 1 is refused. */
+/* The smallest q is 1000 at most, since no ratio is above 1. */
 static long thousandths(long size, Fraction ratio)
 {
     wide q = 0;
     while (q < 1000 && q * q * ratio.den < 1000000 * ratio.num)
         q++;
     return 1000 * (size + 1) - (long)q;
+}
+
+/* ---- what is proved of every plan */
+
+static long above_one, off_strength;
+
+/* A resolution that does not exist is given as the number of columns and one, and the strength is then full. */
+static void hold_to_theorems(long size, long balanced, Fraction ratio)
+{
+    Fraction one = { 1, 1 };
+    above_one += less(one, ratio);
+    off_strength += size != balanced + 1;
+}
+
+int reference_fails(void)
+{
+    printf("the reference by definition and by its short cut: %ld differ\n", disagreements);
+    printf("the largest ratios of the reference: %ld above 1\n", above_one);
+    printf("the resolutions of the reference: %ld not the strength and one\n", off_strength);
+    return disagreements + above_one + off_strength > 0;
 }
 
 /* ---- advice */
@@ -558,15 +580,14 @@ long reference_listing(const byte *text, long length, byte *out)
     if (r.number != 0)
         return put_refusal(out, r) - start;
     Plan p = whole(read.levels, read.columns, read.table, read.entries);
-    long size = resolution(&p);
-    Fraction one = { 1, 1 }, ratio = { 0, 1 };
+    long size = resolution(&p), balanced = strength(&p);
+    Fraction ratio = { 0, 1 };
     if (size <= p.columns)
         ratio = largest_ratio(&p, size);
-    if (less(one, ratio))
-        return put_refusal(out, refusal(12, 0, 0)) - start;
+    hold_to_theorems(size, balanced, ratio);
     out = end_line(field(field(put(out, "plan"), p.count), p.columns));
     out = put_words(out, &p);
-    out = end_line(field(put(out, "strength"), strength(&p)));
+    out = end_line(field(put(out, "strength"), balanced));
     out = size <= p.columns ? put_resolution(out, size, ratio) : end_line(put(out, "resolution none"));
     out = p.count < 2 ? end_line(put(out, "lose none")) : end_line(field(put(out, "lose"), advice(&p)));
     return out - start;

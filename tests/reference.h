@@ -17,8 +17,10 @@ typedef struct {
     long first, second;
 } Refusal;
 
-/* How often the short cut gave something else than the definition. */
-extern long reference_disagreements;
+/* Prints how often the short cut gave something else than the definition, and how often a listing went against what is proved of
+ * every plan: a largest ratio above 1, a resolution other than the strength and one. Whether any of these came up.
+ */
+int reference_fails(void);
 
 /* How many columns of a good plan the reference makes sets of: all of them, or those of several levels. */
 long reference_columns(const byte *levels, long columns);

@@ -6,8 +6,8 @@
  * seed and what it tried.
  *
  * Arguments: the seed, and 1 for a short run, 2 for a short run of the sets
- * alone. The exit status is not 0 where an answer differed, and in a full run
- * also where a function was tried less than 100,000 times (sets of columns
+ * alone. The exit status is not 0 where an answer differed or the reference
+ * failed by itself, and in a full run also where a function was tried less than 100,000 times (sets of columns
  * 50,000, all sets of a size 15,000 times), or a refusal, two refusals at once
  * or two damages in their order did not come up, or plans with columns of one
  * level, without any or of such alone fewer than 10,000 times.

@@ -108,7 +108,7 @@ static int too_few_levels(void)
 
 void finish(int full)
 {
-    int status = differences > 0 || reference_disagreements > 0;
+    int status = differences > 0;
     printf("plans generated: %ld without a column of one level, %ld with such beside others, %ld of such alone\n",
            without, beside, alone);
     for (int k = 0; k < TALLIES; k++)
@@ -116,7 +116,7 @@ void finish(int full)
     for (int k = 0; full && k < TALLIES; k++)
         status |= too_little(tallies[k]);
     status |= full && too_few_levels();
-    printf("the reference by definition and by its short cut: %ld differ\n", reference_disagreements);
+    status |= reference_fails();
     printf("%s: %ld differ\n", differences == 0 ? "the same" : "NOT the same", differences);
     exit(status);
 }

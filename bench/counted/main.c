@@ -1,5 +1,6 @@
 /* One work on a plan so many times, for the emulator to count: which, runs,
- * columns, the size of the sets (which the words do not need), times.
+ * columns, the size of the sets (which the words do not need), times. With a
+ * resolution behind these the plan has that one.
  */
 #include "algorithms.h"
 #include "timing.h"
@@ -20,6 +21,9 @@ static const struct {
     { "table-in-c", table_of_c },
     { "set-words-by-counts", set_words_by_counts },
     { "set-words-by-pairs", set_words_by_pairs },
+    { "ratio", ratio_of_library },
+    { "ratio-in-c", ratio_of_c },
+    { "ratio-before-in-c", ratio_before_of_c },
 };
 
 static Work *work_of(const char *name)
@@ -30,6 +34,14 @@ static Work *work_of(const char *name)
     return 0;
 }
 
+static void make(char **sizes, const char *resolution)
+{
+    if (resolution)
+        make_with_resolution(atol(resolution), atol(sizes[0]), atol(sizes[1]));
+    else
+        make_any(atol(sizes[0]), atol(sizes[1]));
+}
+
 int main(int count, char **arguments)
 {
     Work *work = count > 5 ? work_of(arguments[1]) : 0;
@@ -37,7 +49,7 @@ int main(int count, char **arguments)
         return 2;
     long answer = 0;
     fill_binomials();
-    make_any(atol(arguments[2]), atol(arguments[3]));
+    make(arguments + 2, count > 6 ? arguments[6] : 0);
     size = atol(arguments[4]);
     for (long k = atol(arguments[5]); k > 0; k--)
         answer = work();

@@ -19,7 +19,7 @@ use Rattle.projections.specs.Projections.{setWordAnswer}
 use Rattle.frequencies.specs.declared.TableAnswer.{TableAnswer}
 use Rattle.frequencies.specs.Frequencies.{Line, Rooms, shortest, tableRefusal, tableAnswer}
 use Rattle.resolution.specs.declared.GeneralizedAnswer.{GeneralizedAnswer}
-use Rattle.resolution.specs.Resolution.{resolutionIn, ratioIn, ratioChecksIn, thousandthsOf, generalizedAnswer}
+use Rattle.resolution.specs.Resolution.{resolutionIn, ratioIn, resolutionChecks, thousandthsOf, generalizedAnswer}
 use Rattle.resolution.proofs.Resolved.{resolution-is}
 use Rattle.held.specs.declared.Held.{Held}
 use Rattle.held.specs.declared.HeldAnswer.{HeldAnswer}
@@ -27,8 +27,7 @@ use Rattle.held.specs.Held.{IsHeld, planIn, openAnswer, strikes, reinstates}
 use Rattle.held.specs.History.{isAccepted}
 use Rattle.held.proofs.History.{call-held, undo}
 use Rattle.standing.specs.declared.HeldWord.{HeldWord}
-use Rattle.standing.specs.Answers.{heldWord}
-use Rattle.standing.proofs.Asked.{standing-most}
+use Rattle.standing.specs.Answers.{ofStanding, heldWord}
 use Rattle.bench.specs.Exports.{round, rounds}
 
 -- no refusal: no check of the call fails
@@ -48,18 +47,18 @@ rounds-held H (suc k) = call-held (call-held (rounds-held H k) (strikes 0)) (rei
 
 pub open-number : (p : Plan) {a : HeldAnswer} → a ≡ openAnswer p → a .refused .number ≤ 14
 unfolding openAnswer
-open-number p e = rw e (number-most (planChecks p) tt)
+open-number p e = rw e (number-most (planChecks p))
 
 pub word-number : (h : Held) (j : ℕ) {a : HeldWord} → a ≡ heldWord h j → a .answer .refused .number ≤ 14
 unfolding heldWord wordAnswer
-word-number h j e = rw e (standing-most h (badLength (columns (planIn h)) j ∷ []) tt)
+word-number h j e = rw e (number-most (ofStanding h (badLength (columns (planIn h)) j ∷ [])))
 
 -- ---- a table
 
 module _ (p : Plan) (f : ℕ) (ls : List Line) (R : Rooms) {a : TableAnswer} (e : a ≡ tableAnswer (ofPlan p) (columns p) f ls R) where
   pub table-number : a .refused .number ≤ 14
   unfolding tableAnswer
-  table-number = rw e (number-most (tableRefusal (ofPlan p) (columns p) f ls R) tt)
+  table-number = rw e (number-most (tableRefusal (ofPlan p) (columns p) f ls R))
 
   pub lines-within : a .lines ≤ length (R .nums)
   unfolding tableAnswer
@@ -79,14 +78,14 @@ module _ (p : Plan) (f : ℕ) (ls : List Line) (R : Rooms) {a : TableAnswer} (e 
 module _ (p : Plan) {a : GeneralizedAnswer} (e : a ≡ generalizedAnswer p (everyRun p) (ofPlan p)) where
   pub ratio-number : a .refused .number ≤ 14
   unfolding generalizedAnswer
-  ratio-number = rw e (number-most (ofPlan p (ratioChecksIn p (everyRun p))) tt)
+  ratio-number = rw e (number-most (ofPlan p (resolutionChecks p (everyRun p))))
 
   pub thousandths-small : a .thousandths < 2 ^ 63
   unfolding generalizedAnswer
   thousandths-small = rw e (go (refuses (refusal (ofPlan p own))) refl)
     where
       own : List Check
-      own = ratioChecksIn p (everyRun p)
+      own = resolutionChecks p (everyRun p)
 
       R : ℕ
       R = resolutionIn p (everyRun p)
@@ -107,7 +106,7 @@ module _ (p : Plan) {a : GeneralizedAnswer} (e : a ≡ generalizedAnswer p (ever
 
 pub set-number : (p : Plan) (f : ℕ) (I : List ℕ) {a : SetWordAnswer} → a ≡ setWordAnswer p (everyRun p) (ofPlan p) f I → a .refused .number ≤ 14
 unfolding setWordAnswer
-set-number p f I e = rw e (number-most (ofPlan p (badSize (columns p) f ∷ badSet (columns p) f I ∷ [])) tt)
+set-number p f I e = rw e (number-most (ofPlan p (badSize (columns p) f ∷ badSet (columns p) f I ∷ [])))
 
 pub size-number : (p : Plan) (f : ℕ) {r : Refusal} → r ≡ refusal (ofPlan p (badSize (columns p) f ∷ [])) → r .number ≤ 14
-size-number p f e = rw e (number-most (ofPlan p (badSize (columns p) f ∷ [])) tt)
+size-number p f e = rw e (number-most (ofPlan p (badSize (columns p) f ∷ [])))

@@ -97,17 +97,23 @@ module _ {R C : Type 0} (level : C → ℕ) (entry : R → C → ℕ) (runs : Li
   unfolding wordOf
   wordOf-at ps i qs = sum-cong runs (λ f. sum-cong runs (λ g. prod-at ps i qs (scoreAt level entry f g)))
 
-  first-ceiling : (i : C) (K : List C) → ((J : List C) → Part J K → length J < length K → wordOf level entry runs (i ∷ J) ≡ pos 0) →
-      ((J : List C) → Part J K → 0 < length J → wordOf level entry runs J ≡ pos 0) →
-      wordOf level entry runs (i ∷ K) ≤ℤ (pos (length runs) *ℤ pos (length runs) *ℤ (pos (level i) -ℤ pos 1))
-  first-ceiling i K h k =
-      let W = wordOf level entry runs in
-      let n² = pos (length runs) *ℤ pos (length runs) in
-      let low : agreeing K ≡ n² = sym (agreeing-parts K) ∙ parts-bottom K W k ∙ wordOf-nil in
-      let high : agreeing (i ∷ K) ≡ W (i ∷ K) +ℤ n²
-      = sym (agreeing-parts (i ∷ K)) ∙ sum-parts i K W ∙ rw (parts-top K (λ J. W (i ∷ J)) h, parts-bottom K W k, wordOf-nil) in
-      less (W (i ∷ K)) n² (pos (level i))
-      (subst (λ z. z ≤ℤ (pos (level i) *ℤ n²)) high (subst (λ z. agreeing (i ∷ K) ≤ℤ (pos (level i) *ℤ z)) low (agreeing-le i K)))
+  -- of columns that have no other word: what the first has with the others, and the others alone
+  module _ (i : C) (K : List C) (h : (J : List C) → Part J K → length J < length K → wordOf level entry runs (i ∷ J) ≡ pos 0)
+      (k : (J : List C) → Part J K → 0 < length J → wordOf level entry runs J ≡ pos 0) where
+    abbrev n² : ℤ
+    n² = pos (length runs) *ℤ pos (length runs)
+
+    pub agreeing-first : agreeing (i ∷ K) ≡ wordOf level entry runs (i ∷ K) +ℤ n²
+    agreeing-first =
+        let W = wordOf level entry runs in
+        sym (agreeing-parts (i ∷ K)) ∙ sum-parts i K W ∙ rw (parts-top K (λ J. W (i ∷ J)) h, parts-bottom K W k, wordOf-nil)
+
+    first-ceiling : wordOf level entry runs (i ∷ K) ≤ℤ (n² *ℤ (pos (level i) -ℤ pos 1))
+    first-ceiling =
+        let W = wordOf level entry runs in
+        let low : agreeing K ≡ n² = sym (agreeing-parts K) ∙ parts-bottom K W k ∙ wordOf-nil in
+        less (W (i ∷ K)) n² (pos (level i))
+        (subst (λ z. z ≤ℤ (pos (level i) *ℤ n²)) agreeing-first (subst (λ z. agreeing (i ∷ K) ≤ℤ (pos (level i) *ℤ z)) low (agreeing-le i K)))
 
   pub ceiling : (ps : List C) (i : C) (qs : List C) →
       ((J : List C) → Part J (ps ++ i ∷ qs) → 0 < length J → length J < length (ps ++ i ∷ qs) → wordOf level entry runs J ≡ pos 0) →

@@ -4,7 +4,7 @@ use mathlib.Core.Path.{_≡_, refl}
 use mathlib.Core.List.{List, [], _∷_, map}
 use Prim.Native.Nat.{ℕ, _-_}
 use lib.ListN.{length, replicate}
-use lib.IntN.{pos, natAbs, _*ℤ_}
+use lib.IntN.{pos, natAbs, _-ℤ_, _*ℤ_}
 use Rattle.exact.specs.Lists.{sum, prod}
 use Rattle.rules.specs.Plan.{Plan, plan, level, entry, everyRun, everyColumn}
 use Rattle.sets.proofs.Choose.{subsets}
@@ -92,3 +92,28 @@ as-from-pairs = refl
 as-from-counts : map from-counts words ≡ map (λ x. x .word) words
 unfolding from-counts words
 as-from-counts = refl
+
+-- ---- W(I) of columns that have no other word, as request #109 gives it: a set of R columns, and one with a column of one level, which has none
+
+alone : List Word
+alone =
+    has (2 ∷ 2 ∷ 2 ∷ []) (0 ∷ 0 ∷ 0 ∷ 0 ∷ 1 ∷ 1 ∷ 1 ∷ 0 ∷ 1 ∷ 1 ∷ 1 ∷ 0 ∷ []) (0 ∷ 1 ∷ 2 ∷ []) 16
+    ∷ has (2 ∷ 3 ∷ []) (0 ∷ 0 ∷ 0 ∷ 1 ∷ 1 ∷ 2 ∷ []) (0 ∷ []) 1
+    ∷ has (3 ∷ []) (0 ∷ 1 ∷ []) (0 ∷ []) 2
+    ∷ has (1 ∷ 2 ∷ []) (0 ∷ 0 ∷ 0 ∷ 1 ∷ []) (0 ∷ 1 ∷ []) 0
+    ∷ []
+
+from-squares : Word → ℕ
+unfolding squares
+from-squares x =
+    let p = x .asked in
+    let n = length (everyRun p) in
+    natAbs (prod (x .columns) (λ i. pos (level p i)) *ℤ squares (level p) (entry p) (everyRun p) (x .columns) -ℤ pos n *ℤ pos n)
+
+alone-from-pairs : map from-pairs alone ≡ map (λ x. x .word) alone
+unfolding from-pairs alone
+alone-from-pairs = refl
+
+alone-from-squares : map from-squares alone ≡ map (λ x. x .word) alone
+unfolding from-squares alone
+alone-from-squares = refl

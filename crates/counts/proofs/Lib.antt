@@ -14,3 +14,4 @@ pub mod Squared
 pub mod OverParts
 pub mod FromCounts
 pub mod Turned
+pub mod OnlyWord

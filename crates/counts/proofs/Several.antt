@@ -10,33 +10,21 @@ use lib.Dec.{T, eqb, ltb}
 use lib.ListN.{length}
 use lib.IntN.{pos}
 use Rattle.exact.specs.Lists.{largest}
-use Rattle.exact.proofs.Tests.{iff-eq, all-mem, mem-all}
+use Rattle.exact.proofs.Tests.{iff-eq}
 use Rattle.exact.proofs.Lists.{keep-most}
 use Rattle.exact.proofs.Members.{keep-mem}
 use Rattle.exact.proofs.Numbers.{length-from, mem-from}
 use Rattle.exact.proofs.Searches.{IsLargest, largest-is, largest-unique}
 use Rattle.rules.specs.Plan.{Plan, columns, level, entry, everyColumn, several}
-use Rattle.sets.specs.Sets.{choose}
 use Rattle.plan.specs.Good.{Sound}
 use Rattle.words.specs.Words.{word}
 use Rattle.words.proofs.Laws.{word-above}
 use Rattle.words.proofs.OneLevel.{words-several}
-use Rattle.counts.specs.Counts.{even, balanced, strength}
+use Rattle.counts.specs.Counts.{balanced, strength}
 use Rattle.counts.specs.Numbered.{Columns}
-use Rattle.counts.proofs.Balance.{even→Even, Even→even, passed}
+use Rattle.counts.proofs.Balance.{passed}
 use Rattle.counts.proofs.Even.{AllBelow}
-use Rattle.counts.proofs.Wordless.{NoWord, wordless→even, even→wordless}
-
-module _ {R C : Type 0} (level : C → ℕ) (entry : R → C → ℕ) (runs : List R) (cols : List C) (v : AllBelow level entry runs cols) where
-  wordless→balanced : (t : ℕ) → NoWord level entry runs cols v t → T (balanced level entry runs cols t)
-  unfolding balanced
-  wordless→balanced t h =
-      mem-all (even level entry runs) (choose t cols) (λ K m. Even→even level entry runs K (wordless→even level entry runs cols v t h K m))
-
-  balanced→wordless : (t : ℕ) → t ≤ length cols → T (balanced level entry runs cols t) → NoWord level entry runs cols v t
-  unfolding balanced
-  balanced→wordless t b h =
-      even→wordless level entry runs cols v t b (λ K m. even→Even level entry runs K (all-mem (even level entry runs) (choose t cols) h K m))
+use Rattle.counts.proofs.Wordless.{NoWord, wordless-balanced}
 
 module _ {R C : Type 0} (level : C → ℕ) (entry : R → C → ℕ) (runs : List R) (cols : List C) (v : AllBelow level entry runs cols) where
   -- how many columns have several levels
@@ -61,11 +49,11 @@ module _ {R C : Type 0} (level : C → ℕ) (entry : R → C → ℕ) (runs : Li
   pub balanced-several : (t : ℕ) → t ≤ length cols →
       balanced level entry runs cols t ≡ balanced level entry runs (several level cols) (min t many)
   balanced-several t b =
+      let all = wordless-balanced level entry runs cols v t b in
+      let some = wordless-balanced level entry runs (several level cols) below (min t many) (omega arith) in
       iff-eq (balanced level entry runs cols t) (balanced level entry runs (several level cols) (min t many))
-      (λ h. wordless→balanced level entry runs (several level cols) below (min t many) (λ j l k.
-      sym (words-several level entry runs cols v j) ∙ balanced→wordless level entry runs cols v t b h j l (omega arith)))
-      (λ h. wordless→balanced level entry runs cols v t
-      (wordless-several t (balanced→wordless level entry runs (several level cols) below (min t many) (omega arith) h)))
+      (λ h. some .0 (λ j l k. sym (words-several level entry runs cols v j) ∙ all .1 h j l (omega arith)))
+      (λ h. all .0 (wordless-several t (some .1 h)))
 
   -- the strength of the columns of several levels; the number of all columns where that is the number of those
   pub strength-several :

@@ -1,23 +1,26 @@
 -- Every t columns are even exactly where the words of length 1 to t are 0; so the resolution is the strength and one.
 use mathlib.Core.Path.{_≡_, refl, sym, _∙_, ap, subst}
 use mathlib.Core.List.{List, [], _∷_, List·Memᴰ, List·Memᴰ·head, List·Memᴰ·tail}
+use mathlib.Core.Logic.{_↔_}
 use Prim.Native.Nat.{ℕ, suc, _*_, _-_, _≤_, _<_}
 use native.Mathlib.Nat.{mul-pos, zero-lt-suc}
 use native.Mathlib.Decide.{decLt}
 use native.Mathlib.Omega.{arith}
+use lib.Dec.{T}
 use lib.ListN.{length}
 use lib.IntN.{ℤ, pos, natAbs, _*ℤ_}
 use Rattle.exact.specs.Lists.{sum, prod}
 use Rattle.exact.proofs.Ring.{ring, *-one, one-*}
+use Rattle.exact.proofs.Tests.{all-mem, mem-all}
 use Rattle.exact.proofs.Sums.{sum-cong, sum-cong-in, sum-*, sum-0}
 use Rattle.sets.specs.Sets.{choose}
 use Rattle.sets.proofs.Parts.{Part, part-trans, part-mem, part-length, choose-part, part-choose, part-extend}
 use Rattle.words.specs.Words.{wordOf, word}
 use Rattle.words.proofs.Squares.{agree}
 use Rattle.words.proofs.Positive.{wordOf-weighed, wordOf-nonneg}
-use Rattle.counts.specs.Counts.{combinations, tally}
+use Rattle.counts.specs.Counts.{combinations, tally, even, balanced}
 use Rattle.counts.proofs.Numbered.{mem-combinations}
-use Rattle.counts.proofs.Balance.{Even, IsStrength}
+use Rattle.counts.proofs.Balance.{Even, even→Even, Even→even, IsStrength}
 use Rattle.counts.proofs.Shown.{combinations-mem, has, has-nil, has-cons, tally-sum}
 use Rattle.counts.proofs.Even.{AllBelow, Vanish, Vanish⁺, Scaled, sum-zero, cancel-eq, zero→vanish, vanish→zero, vanish→scaled, scaled→vanish}
 
@@ -114,18 +117,18 @@ module _ {R C : Type 0} (level : C → ℕ) (entry : R → C → ℕ) (runs : Li
   abbrev pub AllEven : ℕ → Type 0
   AllEven t = (K : List C) → List·Memᴰ K (choose t cols) → Even level entry runs K
 
-  word-zero : (j : ℕ) → word level entry runs cols j ≡ pos 0 → (I : List C) → List·Memᴰ I (choose j cols) → wordOf level entry runs I ≡ pos 0
+  pub word-zero : (j : ℕ) → word level entry runs cols j ≡ pos 0 → (I : List C) → List·Memᴰ I (choose j cols) → wordOf level entry runs I ≡ pos 0
   unfolding word
   word-zero j e I m =
       sum-zero (choose j cols) (λ I. wordOf level entry runs I)
       (λ J n. wordOf-nonneg level entry runs J (λ i k. v i (part-mem (choose-part j cols J n .0) i k))) e I m
 
-  pub wordless→even : (t : ℕ) → NoWord t → AllEven t
+  wordless→even : (t : ℕ) → NoWord t → AllEven t
   wordless→even t h K m = let (p, e) = choose-part t cols K m in
       parts→even level entry runs K (λ k n. v k (part-mem p k n))
       (λ I q l. word-zero (length I) (h (length I) l (let d = part-length q in omega arith)) I (part-choose (part-trans q p)))
 
-  pub even→wordless : (t : ℕ) → t ≤ length cols → AllEven t → NoWord t
+  even→wordless : (t : ℕ) → t ≤ length cols → AllEven t → NoWord t
   unfolding word
   even→wordless t b h j l k = sum-cong-in (choose j cols) (λ I m.
       let (p, e) = choose-part j cols I m in
@@ -133,11 +136,19 @@ module _ {R C : Type 0} (level : C → ℕ) (entry : R → C → ℕ) (runs : Li
       even→part level entry runs a (λ i n. v i (part-mem q i n)) (h J (subst (λ t. List·Memᴰ J (choose t cols)) d (part-choose q))) (omega arith))
       ∙ sum-0 (choose j cols)
 
-  -- the least length from 1 on of a word that is not 0 is the strength and one
-  pub resolution-strength : (r t : ℕ) → 0 < r → r ≤ length cols → ¬ (word level entry runs cols r ≡ pos 0) → NoWord (r - 1) →
-      IsStrength level entry runs cols t → r ≡ suc t
+  -- the first t words vanish exactly where every t columns show all combinations equally often
+  pub wordless-balanced : (t : ℕ) → t ≤ length cols → (NoWord t ↔ T (balanced level entry runs cols t))
+  unfolding balanced
+  wordless-balanced t b = (
+    λ h. mem-all (even level entry runs) (choose t cols) (λ K m. Even→even level entry runs K (wordless→even t h K m)),
+    λ h. even→wordless t b (λ K m. even→Even level entry runs K (all-mem (even level entry runs) (choose t cols) h K m)),
+  )
+
+  -- the least length from 1 on of a word that is not 0, and m + 1 where there is none, is the strength and one
+  pub resolution-strength : (r t : ℕ) → 0 < r → r ≤ suc (length cols) → (r ≤ length cols → ¬ (word level entry runs cols r ≡ pos 0)) →
+      NoWord (r - 1) → IsStrength level entry runs cols t → r ≡ suc t
   resolution-strength r t low fits there least S = go (decLt t r)
     where
       go : Dec (t < r) → r ≡ suc t
       go (yes l) = omega (arith, S .most (r - 1) (omega arith) (wordless→even (r - 1) least))
-      go (no f) = absurd (there (even→wordless t (S .fits) (S .all-even) r low (omega arith)))
+      go (no f) = absurd (there (omega (arith, S .fits)) (even→wordless t (S .fits) (S .all-even) r low (omega arith)))

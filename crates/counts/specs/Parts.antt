@@ -1,11 +1,14 @@
--- Request #108: W(I) from counts. The parts of a set of columns, worked out a column at a time from the numbers that the runs have so far.
+-- Requests #108 and #109: W(I) from counts. The parts of a set of columns, worked out a column at a time from the numbers that the runs
+-- have so far; and a set of which the runs have no other word, as every set of R columns is.
+use mathlib.Core.Path.{_≡_}
 use mathlib.Core.List.{List, [], _∷_, map, List·Memᴰ}
 use Prim.Native.Nat.{ℕ, zero, suc, _+_, _*_, _≤_, _<_}
 use lib.Dec.{eqb}
 use lib.ListN.{length, getD, drop}
 use lib.IntN.{ℤ, pos, negℤ, natAbs, _+ℤ_, _*ℤ_}
 use Rattle.exact.specs.Lists.{from, each, sum, count}
-use Rattle.rules.specs.Plan.{mostRuns}
+use Rattle.rules.specs.Plan.{Plan, level, entry, mostRuns}
+use Rattle.words.specs.Words.{word}
 
 -- the combinations of 4 columns of 16 levels
 abbrev pub mostNumbers : ℕ
@@ -57,3 +60,16 @@ module _ {R C : Type 0} (entry : R → C → ℕ) where
   -- the entries of the runs in some columns, column after column
   abbrev pub turned : List R → List C → List ℕ
   turned rs I = each I (λ i. map (λ f. entry f i) rs)
+
+-- ---- no other word
+
+module _ {R C : Type 0} (level : C → ℕ) (entry : R → C → ℕ) (rs : List R) where
+  -- no word of the columns is shorter than `size`
+  abbrev pub NoneShorter : List C → ℕ → Type 0
+  NoneShorter cols size = (j : ℕ) → 0 < j → j < size → word level entry rs cols j ≡ pos 0
+
+-- columns of which the runs have no word but that of all of them
+pub record OnlyWord (p : Plan) (rs I : List ℕ) : Type 0 where
+  pub runs : 1 ≤ length rs
+  pub columns : 1 ≤ length I
+  pub none-shorter : NoneShorter (level p) (entry p) rs I (length I)

@@ -11,11 +11,12 @@ ghost use Rattle.rules.specs.Plan.{plan, level, entry, everyColumn, mostColumns
 ghost use Rattle.plan.specs.Good.{Sound};
 ghost use Rattle.counts.specs.Counts.{even, balanced, strength};
 ghost use Rattle.counts.specs.Numbered.{productOf, numberOf, tallies, Columns};
+ghost use Rattle.counts.specs.Parts.{mostNumbers};
 
 // How many combinations the columns have, the product of their levels; limit + 1 where that is above limit.
 pub fn product_of(levels: &[u8], columns: &[usize], limit: usize) -> usize
     requires { ⌜ Columns (now levels) (now columns) ⌝ }
-    requires { ⌜ limit ≤ mostRuns ⌝ }
+    requires { ⌜ limit ≤ mostNumbers ⌝ }
     ensures { λ r. ⌜ r ≡ min (productOf (level (plan (now (levels .entry)) [])) (now (columns .entry))) (limit + 1) ⌝ }
 {
     let mut product = 1;
@@ -33,7 +34,7 @@ pub fn product_of(levels: &[u8], columns: &[usize], limit: usize) -> usize
 pub fn combination(levels: &[u8], table: &[u8], run: usize, columns: &[usize]) -> usize
     requires { ⌜ Sound (plan (now levels) (now table)) (run ∷ []) ⌝ }
     requires { ⌜ Columns (now levels) (now columns) ⌝ }
-    requires { ⌜ productOf (level (plan (now levels) (now table))) (now columns) ≤ mostRuns ⌝ }
+    requires { ⌜ productOf (level (plan (now levels) (now table))) (now columns) ≤ mostNumbers ⌝ }
     ensures { λ r.
         ⌜ (let p = plan (now (levels .entry)) (now (table .entry)) in r ≡ numberOf (level p) (entry p) run (now (columns .entry))) ⌝ }
 {

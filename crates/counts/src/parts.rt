@@ -1,5 +1,8 @@
-// For our own crates: W(I) of a set of up to 4 columns from counts. It is the sum, over all parts of the set, of the product of a part's
-// levels times its squared combination counts, minus where an odd number of columns is left out.
+// For our own crates: W(I) from counts. Of a set of up to 4 columns it is the sum, over all parts of the set, of the product of a part's
+// levels times its squared combination counts, minus where an odd number of columns is left out. Where no smaller part has a word, only
+// the set itself and the empty part are left of that sum, and the set may have any number of columns.
+use crate::inner::combination;
+use crate::inner::product_of;
 use exact::signed;
 ghost use mathlib.Core.Path.{_≡_};
 ghost use mathlib.Core.List.{[], map};
@@ -11,8 +14,11 @@ ghost use Rattle.exact.specs.Lists.{filledTo};
 ghost use Rattle.rules.specs.Plan.{plan, level, entry, mostRuns};
 ghost use Rattle.plan.specs.Good.{Sound};
 ghost use Rattle.words.specs.Words.{wordOf};
-ghost use Rattle.counts.specs.Numbered.{Columns};
-ghost use Rattle.counts.specs.Parts.{mostNumbers, counted, squaresOf, sign, longer, overParts, Weighed, turned};
+ghost use Rattle.counts.specs.Numbered.{productOf, numberOf, Columns};
+ghost use Rattle.counts.specs.Parts.{mostNumbers, counted, squaresOf, sign, longer, overParts, Weighed, turned, OnlyWord};
+
+// The counters, one for each combination of 4 columns of 16 levels.
+const MOST_NUMBERS: usize = 65536;
 
 // Counts the numbers, and adds up the squares of the counts: where a count goes from c to c + 1, its square grows by 2c + 1.
 fn count(numbers: &[u16], counters: &mut [u16; 65536]) -> u64
@@ -160,4 +166,43 @@ pub fn word(
     let numbers = [0u16; 256];
     let weight = sign(columns.len());
     over_parts(levels, columns, &digits, &numbers[..n], weight, counters)
+}
+
+// The numbers of the combinations that the runs have in the columns.
+fn numbers(levels: &[u8], table: &[u8], runs: &[usize], columns: &[usize]) -> [u16; 256]
+    requires { ⌜ Sound (plan (now levels) (now table)) (now runs) ⌝ }
+    requires { ⌜ Columns (now levels) (now columns) ⌝ }
+    requires { ⌜ productOf (level (plan (now levels) (now table))) (now columns) ≤ mostNumbers ⌝ }
+    ensures { λ r. ⌜ (let p = plan (now (levels .entry)) (now (table .entry)) in
+        r ≡ filledTo 256 0 (map (λ f. numberOf (level p) (entry p) f (now (columns .entry))) (now (runs .entry)))) ⌝ }
+{
+    let mut room = [0u16; 256];
+    for k in 0..runs.len() {
+        room[k] = combination(levels, table, runs[k], columns) as u16;
+    }
+    room
+}
+
+// W(I) of columns that have no other word: the product of their levels times their squared counts, less n². One pass over the runs.
+pub fn only_word(
+    levels: &[u8],
+    table: &[u8],
+    runs: &[usize],
+    columns: &[usize],
+    counters: &mut [u16; 65536],
+) -> i64
+    requires { ⌜ Sound (plan (now levels) (now table)) (now runs) ⌝ }
+    requires { ⌜ Columns (now levels) (now columns) ⌝ }
+    requires { ⌜ OnlyWord (plan (now levels) (now table)) (now runs) (now columns) ⌝ }
+    requires { ⌜ now counters ≡ counted [] ⌝ }
+    ensures word { λ r. ⌜ (let p = plan (now (levels .entry)) (now (table .entry)) in
+        r ≡ wordOf (level p) (entry p) (now (runs .entry)) (now (columns .entry))) ⌝ }
+    ensures counters { λ _. ⌜ now (counters .exit) ≡ counted [] ⌝ }
+{
+    let n = runs.len();
+    let product = product_of(levels, columns, MOST_NUMBERS);
+    let numbers = numbers(levels, table, runs, columns);
+    let squares = squares(&numbers[..n], counters);
+    let agreeing = signed::mul(signed::of_size(product), squares);
+    signed::sub(agreeing, signed::of_size(n * n))
 }

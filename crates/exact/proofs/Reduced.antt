@@ -2,7 +2,8 @@
 use mathlib.Core.Path.{_≡_, sym, _∙_, subst}
 use Prim.Native.Nat.{ℕ, _*_, _/_, _≤_, _<_, _∣_}
 use native.Mathlib.Nat.{mul-comm, one-mul, eq-of-mul-eq-mul-right, dvd-mul-right, pos-of-dvd-of-pos}
-use native.Mathlib.Nat.{div-mul-cancel, div-le-self, div-self, zero-div, mul-div-mul-right}
+use native.Mathlib.Nat.{div-mul-cancel, div-mul-le-self, le-div-iff-mul-le, div-le-self, div-self, zero-div, mul-div-mul-right}
+use native.Mathlib.Decide.{decLt}
 use native.Mathlib.Omega.{arith}
 use Rattle.exact.specs.Fractions.{gcd, zeroFraction, reduced}
 use Rattle.exact.proofs.Divisors.{gcd-is, gcd-*, gcd-pos, gcd-zero-left}
@@ -21,6 +22,15 @@ module _ (a b : ℕ) where
   pub reduced-den-≤ : reduced a b .den ≤ b
   unfolding reduced
   reduced-den-≤ = div-le-self b (gcd a b)
+
+  -- what is at most 1 stays so
+  pub reduced-at-most-one : a ≤ b → reduced a b .num ≤ reduced a b .den
+  unfolding reduced
+  reduced-at-most-one h = go (decLt 0 b)
+    where
+      go : Dec (0 < b) → a / gcd a b ≤ b / gcd a b
+      go (yes l) = le-div-iff-mul-le (gcd-pos a b l) .1 (omega (arith, div-mul-le-self a (gcd a b)))
+      go (no l) = omega (arith, div-le-self a (gcd a b))
 
   -- the value is kept
   pub reduced-value : reduced a b .num * b ≡ a * reduced a b .den

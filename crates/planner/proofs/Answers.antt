@@ -26,7 +26,7 @@ use Rattle.report.specs.Listing.{listing, listingAnswer, plannerListing}
 module _ (p : Plan) (j : ℕ) (a : WordAnswer) (e : a ≡ wordAnswer p (everyRun p) (ofPlan p) j) where
   pub number-small : a .refused .number ≤ 14
   unfolding wordAnswer
-  number-small = rw e (number-most (ofPlan p (badLength (columns p) j ∷ [])) tt)
+  number-small = rw e (number-most (ofPlan p (badLength (columns p) j ∷ [])))
 
   pub planner-refused : ¬ (a .refused .number ≡ 0) → plannerWord p j ≡ negℤ (pos (a .refused .number))
   unfolding plannerWord
@@ -68,7 +68,7 @@ module _ (p : Plan) (j : ℕ) (a : WordAnswer) (e : a ≡ wordAnswer p (everyRun
 module _ (text room : List ℕ) (a : ListingAnswer) (e : a ≡ listingAnswer text room) where
   pub room-number-small : a .refused .number ≤ 14
   unfolding listingAnswer
-  room-number-small = rw e (number-most (badRoom (length (listing text)) (length room) ∷ []) tt)
+  room-number-small = rw e (number-most (badRoom (length (listing text)) (length room) ∷ []))
 
   pub listing-refused : ¬ (a .refused .number ≡ 0) → plannerListing text room ≡ negℤ (pos (a .refused .number))
   unfolding plannerListing

@@ -1,3 +1,4 @@
 pub mod Answers
 pub mod Rewritten
+pub mod Twelve
 pub mod Figures

@@ -33,7 +33,7 @@ module _ (f : ℕ → ℕ) (I : List ℕ) where
       min (f (getD I (k - 1) 0)) (smallest (map f (drop k I))) ≡ smallest (map f (drop (k - 1) I))
   smallest-turn k h l = rw (drop-back I k 0 h (omega arith), drop-cons I k 0 l)
 
-smallest-mem : (xs : List ℕ) → 1 ≤ length xs → List·Memᴰ (smallest xs) xs
+pub smallest-mem : (xs : List ℕ) → 1 ≤ length xs → List·Memᴰ (smallest xs) xs
 smallest-mem [] h = absurd (omega arith)
 smallest-mem (x ∷ []) h = List·Memᴰ·head refl
 smallest-mem (x ∷ y ∷ ys) h = go (decLe x (smallest (y ∷ ys))) (smallest-mem (y ∷ ys) (omega arith))
@@ -94,18 +94,18 @@ module _ (p : Plan) (rs I : List ℕ) (G : Tabled p rs) (P : Projection p I) (so
       let (i, m, e) = Memᴰ·of-map (level p) I (smallest-mem (map (level p) I) (omega (arith, length-map I (level p)))) in
       subst (λ s. (lowestLevel ≤ s) × (s ≤ highestLevel)) e (G .sound .level-low i (P .inside i m), G .sound .level-high i (P .inside i m))
 
-pub few-pairs : (p : Plan) (rs : List ℕ) → Tabled p rs → length rs * length rs ≤ 65_536
-few-pairs p rs G = mul-below (length rs) (length rs) mostRuns mostRuns (G .sound .few) (G .sound .few)
+pub few-pairs : (n : ℕ) → n ≤ mostRuns → n * n ≤ 65_536
+few-pairs n few = mul-below n n mostRuns mostRuns few few
 
-module _ (p : Plan) (rs I : List ℕ) (G : Tabled p rs) (d : ℕ) (low : 1 ≤ d) (high : d < highestLevel) where
-  pub over-between : (1 ≤ length rs * length rs * d) × (length rs * length rs * d ≤ 983_040)
-  over-between = (mul-pos (mul-pos (G .some) (G .some)) low, mul-below (length rs * length rs) d 65_536 15 (few-pairs p rs G) (omega arith))
+pub over-between : (n d : ℕ) → 1 ≤ n → n ≤ mostRuns → 1 ≤ d → d < highestLevel → (1 ≤ n * n * d) × (n * n * d ≤ 983_040)
+over-between n d some few low high = (mul-pos (mul-pos some some) low, mul-below (n * n) d 65_536 15 (few-pairs n few) (omega arith))
 
-  over-short : ShortDenominator (overPairs p rs I d)
-  over-short =
-      let a = natAbs (wordOf (level p) (entry p) rs I) in
-      let b = length rs * length rs * d in
-      record { above-zero = reduced-den-pos a b (over-between .0); short = omega (arith, reduced-den-≤ a b, over-between) }
+over-short : (p : Plan) (rs I : List ℕ) → Tabled p rs → (d : ℕ) → 1 ≤ d → d < highestLevel → ShortDenominator (overPairs p rs I d)
+over-short p rs I G d low high =
+    let a = natAbs (wordOf (level p) (entry p) rs I) in
+    let b = length rs * length rs * d in
+    let (some, most) = over-between (length rs) d (G .some) (G .sound .few) low high in
+    record { above-zero = reduced-den-pos a b some; short = omega (arith, reduced-den-≤ a b) }
 
 module _ (p : Plan) (rs I : List ℕ) (G : Tabled p rs) (P : Projection p I) (some : 1 ≤ length I) where
   pub value-short : (relative : Bool) → ShortDenominator (valueIn relative p rs I)

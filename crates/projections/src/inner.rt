@@ -6,16 +6,19 @@ use exact::signed;
 use rules::Refusal;
 ghost use mathlib.Core.Path.{_≡_};
 ghost use mathlib.Core.List.{[], _∷_, map};
-ghost use Prim.Native.Nat.{_+_, _≤_, _<_};
+ghost use Prim.Native.Nat.{_+_, _*_, _≤_, _<_};
 ghost use lib.ListN.{length, getD, drop};
+ghost use lib.IntN.{pos, natAbs};
+ghost use lib.Signed.{_≤ℤ_};
 ghost use Rattle.exact.specs.Lists.{sum, smallest};
-ghost use Rattle.rules.specs.Plan.{plan, columns, level, entry, everyRun, highestLevel};
+ghost use Rattle.exact.specs.Fractions.{reduced};
+ghost use Rattle.rules.specs.Plan.{plan, columns, level, entry, everyRun, mostRuns, highestLevel};
 ghost use Rattle.rules.specs.Refusals.{refusal, ofPlan, badSize, badSet};
 ghost use Rattle.plan.specs.Good.{Good, Sound};
 ghost use Rattle.words.specs.Words.{wordOf};
-ghost use Rattle.counts.specs.Parts.{counted};
+ghost use Rattle.counts.specs.Parts.{counted, OnlyWord};
 ghost use Rattle.projections.specs.Given.{Projection, Starts, Tabled, SomeColumns, productOf, pairOf, overPairs};
-ghost use Rattle.projections.specs.Projections.{valueIn};
+ghost use Rattle.projections.specs.Projections.{relativeOf, valueIn};
 
 // Up to so many columns there is a counter for every combination.
 const MOST_COUNTED: usize = 4;
@@ -176,7 +179,18 @@ fn wide(level: u8) -> u64
     level as u64
 }
 
-// W(I) / (n² · divisor). 256 runs and a divisor of 15 give a denominator of at most 983,040.
+// A word over n² · divisor. 256 runs and a divisor of 15 give a denominator of at most 983,040.
+fn over(word: i64, n: usize, divisor: u64) -> Fraction
+    requires { ⌜ pos 0 ≤ℤ word ⌝ }
+    requires { ⌜ (1 ≤ n) × (n ≤ mostRuns) ⌝ }
+    requires { ⌜ (1 ≤ divisor) × (divisor < highestLevel) ⌝ }
+    ensures { λ r. ⌜ r ≡ reduced (natAbs word) (n * n * divisor) ⌝ }
+{
+    let n = n as u64;
+    reduced(signed::to_u64(word), n * n * divisor)
+}
+
+// W(I) / (n² · divisor).
 fn word_over(
     levels: &[u8],
     table: &[u8],
@@ -192,9 +206,8 @@ fn word_over(
         r ≡ overPairs p (now (runs .entry)) (now (columns .entry)) divisor) ⌝ }
     ensures counters { λ _. ⌜ now (counters .exit) ≡ counted [] ⌝ }
 {
-    let word = signed::to_u64(word_in_walk(levels, table, runs, columns, counters));
-    let n = runs.len() as u64;
-    reduced(word, n * n * divisor)
+    let word = word_in_walk(levels, table, runs, columns, counters);
+    over(word, runs.len(), divisor)
 }
 
 // The value of a set in the table that is asked for. The relative value of a set with a column of one level is zero before any
@@ -221,6 +234,29 @@ pub fn value(
         return Fraction { num: 0, den: 1 };
     }
     word_over(levels, table, runs, columns, lowest - 1, counters)
+}
+
+// The relative value of a set of columns that have no other word, as every set of R columns is.
+pub fn ratio(
+    levels: &[u8],
+    table: &[u8],
+    runs: &[usize],
+    columns: &[usize],
+    counters: &mut [u16; 65536],
+) -> Fraction
+    requires { ⌜ Tabled (plan (now levels) (now table)) (now runs)
+        × (Projection (plan (now levels) (now table)) (now columns) × OnlyWord (plan (now levels) (now table)) (now runs) (now columns)) ⌝ }
+    requires { ⌜ now counters ≡ counted [] ⌝ }
+    ensures value { λ r. ⌜ (let p = plan (now (levels .entry)) (now (table .entry)) in
+        r ≡ relativeOf (level p) (entry p) (now (runs .entry)) (now (columns .entry))) ⌝ }
+    ensures counters { λ _. ⌜ now (counters .exit) ≡ counted [] ⌝ }
+{
+    let lowest = wide(smallest_level(levels, columns));
+    if 1 < lowest {
+        let word = counts::parts::only_word(levels, table, runs, columns, counters);
+        return over(word, runs.len(), lowest - 1);
+    }
+    Fraction { num: 0, den: 1 }
 }
 
 // Refusals 1 to 5, of the plan, and 6, of the projection size.

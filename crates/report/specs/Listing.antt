@@ -10,7 +10,7 @@ use Rattle.exact.specs.Fractions.{reduced}
 use Rattle.exact.specs.declared.fractions.Fraction.{Fraction}
 use Rattle.rules.specs.declared.Refusal.{Refusal}
 use Rattle.rules.specs.Plan.{Plan, columns, runs, level, entry, everyColumn, everyRun}
-use Rattle.rules.specs.Refusals.{Check, refusal, refuses, unless, tooLong, malformed, ofPlan, aboveOne, badRoom}
+use Rattle.rules.specs.Refusals.{Check, refusal, refuses, unless, tooLong, malformed, planChecks, badRoom}
 use Rattle.words.specs.Words.{word}
 use Rattle.counts.specs.Counts.{strength}
 use Rattle.resolution.specs.Resolution.{resolutionIn, ratioIn, thousandthsOf}
@@ -78,21 +78,13 @@ module _ (p : Plan) where
 
 -- ---- of a text
 
--- 12: the largest ratio, which is 0/1 where there is no resolution
-abbrev pub ratioCheck : Plan → Check
-ratioCheck p = let x = ratioIn p (everyRun p) in aboveOne (x .num) (x .den)
-
--- 13, 14, 1 to 5, and 12
+-- 13, 14, and 1 to 5
 abbrev pub listingChecks : List ℕ → List Check
-listingChecks text =
-    let p = planOf text in tooLong (length text) ∷ malformed (malformedLine text) ∷ ofPlan p (ratioCheck p ∷ [])
+listingChecks text = tooLong (length text) ∷ malformed (malformedLine text) ∷ planChecks (planOf text)
 
--- what is printed: the line of the refusal, or the lines of the plan
-abbrev pub printed : Refusal → Plan → List ℕ
-printed r p = cond (refuses r) (refusalLine r) (planListing p)
-
+-- the line of the refusal, or the lines of the plan
 unfoldable pub listing : List ℕ → List ℕ
-listing text = printed (refusal (listingChecks text)) (planOf text)
+listing text = let r = refusal (listingChecks text) in unless r (refusalLine r) (planListing (planOf text))
 
 -- ---- into a lent room: 7 where it is too small, and then it stays as it was
 

@@ -1,7 +1,7 @@
 -- How the listing is put together: its parts are put into a room one after the other.
 use mathlib.Core.Path.{_≡_}
 use mathlib.Core.Bool.{cond}
-use mathlib.Core.List.{List, [], _∷_}
+use mathlib.Core.List.{List}
 use Prim.Native.Nat.{ℕ, _+_, _*_, _-_, _≤_, _<_}
 use lib.IntN.{ℤ, pos, natAbs}
 use lib.Signed.{_≤ℤ_}
@@ -9,12 +9,11 @@ use lib.ListN.{length, getD}
 use Rattle.exact.specs.Lists.{from, each}
 use Rattle.exact.specs.Fractions.{reduced}
 use Rattle.rules.specs.Plan.{Plan, everyRun, mostColumns}
-use Rattle.rules.specs.Refusals.{refusal, refuses}
+use Rattle.rules.specs.Refusals.{refuses}
 use Rattle.plan.specs.Good.{Good}
 use Rattle.words.specs.Answers.{wordList}
-use Rattle.resolution.specs.Resolution.{generalizedAnswer}
 use Rattle.resolution.specs.declared.GeneralizedAnswer.{GeneralizedAnswer}
-use Rattle.report.specs.Listing.{wordLine, ratioLines, noResolutionLine, ratioCheck, printed}
+use Rattle.report.specs.Listing.{wordLine, ratioLines, noResolutionLine}
 
 -- a number of 64 bits has 20 digits or fewer, and a space before them
 abbrev pub mostOfLine : List ℕ → List ℕ → ℕ
@@ -38,10 +37,6 @@ wordLinesOf words pairs m = each (from 1 m) (λ j. wordLine j (reduced (natAbs (
 abbrev pub linesOfRating : GeneralizedAnswer → List ℕ
 linesOfRating x = cond (refuses (x .refused)) noResolutionLine (ratioLines (x .resolution) (x .ratio) (x .thousandths))
 
--- the lines of an accepted plan, or that of refusal 12
-unfoldable pub ratedListing : Plan → List ℕ
-ratedListing p = printed (refusal (ratioCheck p ∷ [])) p
-
 -- every run of an accepted plan
 pub record Every (p : Plan) (rs : List ℕ) : Type 0 where
   pub good : Good p
@@ -51,9 +46,3 @@ pub record Every (p : Plan) (rs : List ℕ) : Type 0 where
 pub record Worded (p : Plan) (rs : List ℕ) (words : List ℤ) : Type 0 where
   pub every : Every p rs
   pub of-runs : words ≡ wordList p (everyRun p)
-
--- and their rating, the largest ratio not above 1
-pub record Measured (p : Plan) (rs : List ℕ) (words : List ℤ) (x : GeneralizedAnswer) : Type 0 where
-  pub worded : Worded p rs words
-  pub rated : x ≡ generalizedAnswer p (everyRun p) (λ checks. checks)
-  pub at-most-one : ¬ (x .refused .number ≡ 12)

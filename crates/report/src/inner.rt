@@ -27,10 +27,8 @@ ghost use Rattle.report.specs.Parts.{
   Shown,
   wordLinesOf,
   linesOfRating,
-  ratedListing,
   Every,
   Worded,
-  Measured,
 };
 
 const SPACE: u8 = 32;
@@ -154,39 +152,20 @@ fn write_counts(
     write_line(b"strength", &strength, room, worded)
 }
 
-// The lines of an accepted plan whose largest ratio is not above 1.
-fn write_lines(
-    levels: &[u8],
-    table: &[u8],
-    runs: &[usize],
-    words: &[i64; 24],
-    rating: GeneralizedAnswer,
-    room: &mut [u8],
-) -> usize
-    requires { ⌜ Measured (plan (now levels) (now table)) (now runs) (now words) rating × (mostBytes ≤ length (now room)) ⌝ }
-    ensures { λ r.
-        ⌜ Put (planListing (plan (now (levels .entry)) (now (table .entry)))) mostBytes 0 (now (room .entry)) r (now (room .exit)) ⌝ }
-{
-    let counted = write_counts(levels, table, runs, words, room);
-    let rated = write_resolution(rating, room, counted);
-    write_advice(levels, table, runs, room, rated)
-}
-
-// The lines of an accepted plan, or that of refusal 12.
+// The lines of an accepted plan.
 fn write_plan(levels: &[u8], table: &[u8], room: &mut [u8]) -> usize
     requires { ⌜ Good (plan (now levels) (now table)) × (mostBytes ≤ length (now room)) ⌝ }
     ensures { λ r.
-        ⌜ Put (ratedListing (plan (now (levels .entry)) (now (table .entry)))) mostBytes 0 (now (room .entry)) r (now (room .exit)) ⌝ }
+        ⌜ Put (planListing (plan (now (levels .entry)) (now (table .entry)))) mostBytes 0 (now (room .entry)) r (now (room .exit)) ⌝ }
 {
     let words = words::inner::words_of_plan(levels, table);
     let n = table.len() / levels.len();
     let every = plan::inner::every_run(n);
     let runs = &every[..n];
     let rating = generalized_of(resolution::inner::rate(levels, table, runs, &words, 0));
-    if rating.refused.number == 12 {
-        return write_refusal(rating.refused, room);
-    }
-    write_lines(levels, table, runs, &words, rating, room)
+    let counted = write_counts(levels, table, runs, &words, room);
+    let rated = write_resolution(rating, room, counted);
+    write_advice(levels, table, runs, room, rated)
 }
 
 // The whole listing. Rooms for 24 levels and for 256 runs of them hold every accepted plan.

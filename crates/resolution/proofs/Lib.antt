@@ -2,6 +2,8 @@ pub mod Greatest
 pub mod Searching
 pub mod Root
 pub mod Resolved
+pub mod Agreement
+pub mod AtMostOne
 pub mod Walk
 pub mod Rated
 pub mod Answered

@@ -11,20 +11,20 @@ use Rattle.rules.specs.declared.Refusal.{Refusal}
 use Rattle.rules.proofs.Ranges.{unless-refused}
 use Rattle.plan.proofs.Checks.{passed-good, plan-refused, plan-passed}
 use Rattle.projections.proofs.Answers.{good-tabled}
-use Rattle.resolution.specs.Resolution.{ratioChecksIn}
+use Rattle.resolution.specs.Resolution.{resolutionChecks}
 use Rattle.resolution.specs.Given.{refusing, measures, ratingOf, ofColumn, Small}
 use Rattle.resolution.proofs.Rated.{own, refusing-small, rating-small}
 
 module _ (p : Plan) (rs : List ℕ) (i : ℕ) where
   -- only the refusal counts
   pub rating-same : (s t : List Check → List Check) →
-      refusal (s (ratioChecksIn p rs)) ≡ refusal (t (ratioChecksIn p rs)) →
+      refusal (s (resolutionChecks p rs)) ≡ refusal (t (resolutionChecks p rs)) →
       ratingOf p rs s i ≡ ratingOf p rs t i
   unfolding ratingOf
   rating-same s t e = ap (λ r. unless r (refusing r) (measures p rs i r)) e
 
   pub rating-refused : (s : List Check → List Check) {r : Refusal} →
-      refusal (s (ratioChecksIn p rs)) ≡ r → ¬ (r .number ≡ 0) → refusing r ≡ ratingOf p rs s i
+      refusal (s (resolutionChecks p rs)) ≡ r → ¬ (r .number ≡ 0) → refusing r ≡ ratingOf p rs s i
   unfolding ratingOf
   rating-refused s {r} e n = rw e (sym (unless-refused r (refusing r) (measures p rs i r) n))
 
@@ -33,15 +33,15 @@ module _ (p : Plan) (rs : List ℕ) (i : ℕ) where
 module _ (p : Plan) (rs : List ℕ) (i : ℕ) where
   module _ {r : Refusal} (e : r ≡ refusal (planChecks p)) where
     pub column-refused : ¬ (r .number ≡ 0) → refusing r ≡ ratingOf p rs (ofColumn p i) i
-    column-refused n = rating-refused p rs i (ofColumn p i) (plan-refused p (badPlace (columns p) i ∷ ratioChecksIn p rs) tt e n) n
+    column-refused n = rating-refused p rs i (ofColumn p i) (plan-refused p (badPlace (columns p) i ∷ resolutionChecks p rs) tt e n) n
 
     pub column-outside : r .number ≡ 0 → columns p ≤ i → refusing (plain 8) ≡ ratingOf p rs (ofColumn p i) i
     column-outside z h =
         rating-refused p rs i (ofColumn p i)
-        (plan-passed p (badPlace (columns p) i ∷ ratioChecksIn p rs) tt e z ∙ rw (le-ltb i (columns p) h) refl) (λ q. omega arith)
+        (plan-passed p (badPlace (columns p) i ∷ resolutionChecks p rs) tt e z ∙ rw (le-ltb i (columns p) h) refl) (λ q. omega arith)
 
-    column-inside : r .number ≡ 0 → i < columns p → refusal (ofColumn p i (ratioChecksIn p rs)) ≡ refusal (ratioChecksIn p rs)
-    column-inside z h = plan-passed p (badPlace (columns p) i ∷ ratioChecksIn p rs) tt e z ∙ rw (lt-ltb i (columns p) h) refl
+    column-inside : r .number ≡ 0 → i < columns p → refusal (ofColumn p i (resolutionChecks p rs)) ≡ refusal (resolutionChecks p rs)
+    column-inside z h = plan-passed p (badPlace (columns p) i ∷ resolutionChecks p rs) tt e z ∙ rw (lt-ltb i (columns p) h) refl
 
     pub column-passed : r .number ≡ 0 → i < columns p → own p rs i ≡ ratingOf p rs (ofColumn p i) i
     column-passed z h = rating-same p rs i (λ checks. checks) (ofColumn p i) (sym (column-inside z h))
@@ -50,9 +50,9 @@ module _ (p : Plan) (rs : List ℕ) (i : ℕ) where
 pub column-zero : (p : Plan) (rs : List ℕ) → ratingOf p rs (ofColumn p 0) 0 ≡ ratingOf p rs (ofPlan p) 0
 column-zero p rs = rating-same p rs 0 (ofColumn p 0) (ofPlan p) (go (ℕ-discrete (refusal (planChecks p) .number) 0))
   where
-    go : Dec (refusal (planChecks p) .number ≡ 0) → refusal (ofColumn p 0 (ratioChecksIn p rs)) ≡ refusal (ofPlan p (ratioChecksIn p rs))
-    go (yes z) = column-inside p rs 0 refl z (passed-good p refl z .columns-low) ∙ sym (plan-passed p (ratioChecksIn p rs) tt refl z)
-    go (no n) = plan-refused p (badPlace (columns p) 0 ∷ ratioChecksIn p rs) tt refl n ∙ sym (plan-refused p (ratioChecksIn p rs) tt refl n)
+    go : Dec (refusal (planChecks p) .number ≡ 0) → refusal (ofColumn p 0 (resolutionChecks p rs)) ≡ refusal (ofPlan p (resolutionChecks p rs))
+    go (yes z) = column-inside p rs 0 refl z (passed-good p refl z .columns-low) ∙ sym (plan-passed p (resolutionChecks p rs) tt refl z)
+    go (no n) = plan-refused p (badPlace (columns p) 0 ∷ resolutionChecks p rs) tt refl n ∙ sym (plan-refused p (resolutionChecks p rs) tt refl n)
 
 -- ---- every run of an accepted plan
 

@@ -1,4 +1,4 @@
--- A rating of some runs by the checks 11 and 12, what the routine finds of it, and that its numbers are small.
+-- A rating of some runs by the check 11, what the routine finds of it, and that its numbers are small.
 use mathlib.Core.Path.{_≡_, refl, sym, _∙_, ap, subst}
 use mathlib.Core.List.{List}
 use Prim.Native.Nat.{ℕ, _+_, _*_, _≤_, _<_, _^_}
@@ -8,7 +8,7 @@ use borrow.Author.Tests.{lt-ltb, le-ltb, le-leb, lt-leb}
 use lib.IntN.{ℤ, natAbs}
 use lib.ListN.{length}
 use Rattle.exact.specs.Lists.{keep, holds}
-use Rattle.exact.proofs.Numbers.{length-from, mul-below}
+use Rattle.exact.proofs.Numbers.{mul-below}
 use Rattle.exact.proofs.Members.{keep-mem}
 use Rattle.rules.specs.Plan.{Plan, columns, level, entry, everyColumn, mostColumns, mostRuns}
 use Rattle.rules.specs.Refusals.{plain, accepted}
@@ -26,6 +26,7 @@ use Rattle.resolution.specs.Charts.{columnRatio}
 use Rattle.resolution.specs.Given.{Measured, wordIn, firstAbove, ratiosOf, refusing, measures, ratingOf, Small}
 use Rattle.resolution.proofs.Resolved.{resolution-is, resolution-words}
 use Rattle.resolution.proofs.Walk.{ratios-small}
+use Rattle.resolution.proofs.AtMostOne.{ratio-at-most-one}
 use Rattle.resolution.specs.declared.inner.Rating.{Rating}
 use Rattle.resolution.specs.declared.inner.Ratios.{Ratios}
 
@@ -51,7 +52,7 @@ refusing-small r = record {
   pairs = omega arith;
 }
 
--- ---- a rating by the checks 11 and 12
+-- ---- a rating by the check 11
 
 module _ (p : Plan) (rs : List ℕ) (i : ℕ) where
   abbrev pub own : Rating
@@ -59,15 +60,11 @@ module _ (p : Plan) (rs : List ℕ) (i : ℕ) where
 
   pub rating-none : columns p < resolutionIn p rs → refusing (plain 11) ≡ own
   unfolding ratingOf
-  rating-none h = rw (length-from 0 (columns p), lt-ltb (columns p) (resolutionIn p rs) h)
+  rating-none h = rw (lt-ltb (columns p) (resolutionIn p rs) h)
 
-  rating-above : resolutionIn p rs ≤ columns p → ratioIn p rs .den < ratioIn p rs .num → refusing (plain 12) ≡ own
+  rating-is : resolutionIn p rs ≤ columns p → measures p rs i accepted ≡ own
   unfolding ratingOf
-  rating-above h l = rw (length-from 0 (columns p), le-ltb (columns p) (resolutionIn p rs) h, lt-ltb (ratioIn p rs .den) (ratioIn p rs .num) l)
-
-  rating-is : resolutionIn p rs ≤ columns p → ratioIn p rs .num ≤ ratioIn p rs .den → measures p rs i accepted ≡ own
-  unfolding ratingOf
-  rating-is h l = rw (length-from 0 (columns p), le-ltb (columns p) (resolutionIn p rs) h, le-ltb (ratioIn p rs .den) (ratioIn p rs .num) l)
+  rating-is h = rw (le-ltb (columns p) (resolutionIn p rs) h)
 
   -- the ratios of the sets of R columns
   ratios-are : ratiosOf p rs (setsOf (columns p) (resolutionIn p rs)) i ≡ record { largest = ratioIn p rs; held = columnRatio p rs i }
@@ -93,10 +90,7 @@ module _ (p : Plan) (rs : List ℕ) (i r : ℕ) (q : Ratios) (e : r ≡ resoluti
   ratios : q ≡ record { largest = ratioIn p rs; held = columnRatio p rs i }
   ratios = d ∙ ap (λ r. ratiosOf p rs (setsOf (columns p) r) i) e ∙ ratios-are p rs i
 
-  pub found-above : r ≤ columns p → q .largest .den < q .largest .num → refusing (plain 12) ≡ own p rs i
-  found-above h l = rating-above p rs i (rw e at h) (rw ratios at l)
-
-  pub found-is : (w v : ℤ) → r ≤ columns p → q .largest .num ≤ q .largest .den →
+  pub found-is : (w v : ℤ) → r ≤ columns p →
       w ≡ word (level p) (entry p) rs (everyColumn p) r → v ≡ word (level p) (entry p) rs (everyColumn p) (r + 1) →
       record {
         refused = accepted;
@@ -108,7 +102,7 @@ module _ (p : Plan) (rs : List ℕ) (i r : ℕ) (q : Ratios) (e : r ≡ resoluti
         largest = q .largest;
         held = q .held;
       } ≡ own p rs i
-  found-is w v h l f g = rw (f, g, ratios, e) (rating-is p rs i (rw e at h) (rw ratios at l))
+  found-is w v h f g = rw (f, g, ratios, e) (rating-is p rs i (rw e at h))
 
 -- ---- its numbers are small
 
@@ -119,16 +113,16 @@ module _ (p : Plan) (rs : List ℕ) (i : ℕ) (G : Tabled p rs) where
   word-exact : (j : ℕ) → natAbs (word (level p) (entry p) rs (everyColumn p) j) ≤ 2 ^ 53
   word-exact j = omega (arith, word-small p rs (G .sound) j)
 
-  measures-small : resolutionIn p rs ≤ columns p → ratioIn p rs .num ≤ ratioIn p rs .den → Small (measures p rs i accepted)
+  measures-small : resolutionIn p rs ≤ columns p → Small (measures p rs i accepted)
   unfolding largestRatio columnRatio
-  measures-small h l =
+  measures-small h =
       let K = part-projection p (G .sound .level-low) (G .sound .small) (everyColumn p) (part-all (everyColumn p)) in
       let small = ratios-small p rs (everyColumn p) G K (resolutionIn p rs) low in
       let L = small (setsOf (columns p) (resolutionIn p rs)) (λ I m. m) in
       let H = small (keep (holds i) (setsOf (columns p) (resolutionIn p rs))) (λ I m. keep-mem (holds i) _ I m) in
       record {
         length = omega (arith, G .sound .columns-high);
-        at-most-one = l;
+        at-most-one = ratio-at-most-one p rs (G .sound);
         short = L .0 .short;
         held-num = H .1;
         held-den = omega (arith, H .0 .short);
@@ -138,9 +132,8 @@ module _ (p : Plan) (rs : List ℕ) (i : ℕ) (G : Tabled p rs) where
       }
 
   pub rating-small : Small (own p rs i)
-  rating-small = go (decLe (resolutionIn p rs) (columns p)) (decLe (ratioIn p rs .num) (ratioIn p rs .den))
+  rating-small = go (decLe (resolutionIn p rs) (columns p))
     where
-      go : Dec (resolutionIn p rs ≤ columns p) → Dec (ratioIn p rs .num ≤ ratioIn p rs .den) → Small (own p rs i)
-      go (no h) q = subst Small (rating-none p rs i (omega arith)) (refusing-small (plain 11))
-      go (yes h) (no l) = subst Small (rating-above p rs i h (omega arith)) (refusing-small (plain 12))
-      go (yes h) (yes l) = subst Small (rating-is p rs i h l) (measures-small h l)
+      go : Dec (resolutionIn p rs ≤ columns p) → Small (own p rs i)
+      go (no h) = subst Small (rating-none p rs i (omega arith)) (refusing-small (plain 11))
+      go (yes h) = subst Small (rating-is p rs i h) (measures-small h)

@@ -17,6 +17,8 @@ use Rattle.sets.specs.Sets.{binom, choose}
 use Rattle.sets.proofs.Parts.{choose-part}
 use Rattle.sets.proofs.Pascal.{length-choose}
 use Rattle.sets.proofs.Among.{chosen}
+use Rattle.counts.specs.Parts.{NoneShorter, OnlyWord}
+use Rattle.counts.proofs.OnlyWord.{chosen-only}
 use Rattle.projections.specs.Given.{Projection, Tabled}
 use Rattle.projections.specs.Projections.{relativeOf}
 use Rattle.projections.proofs.Products.{within-projection}
@@ -87,6 +89,15 @@ module _ (p : Plan) (rs cols : List ℕ) (i f : ℕ) where
 module _ (p : Plan) (rs cols : List ℕ) (G : Tabled p rs) (K : Projection p cols) (f : ℕ) (some : 1 ≤ f) where
   pub set-projection : (I : List ℕ) → List·Memᴰ I (choose f cols) → Projection p I × (1 ≤ length I)
   set-projection I m = let (part, e) = choose-part f cols I m in (within-projection p (G .sound .level-low) part K, rw e some)
+
+  -- where no word is shorter, a set has no other word
+  pub set-only : NoneShorter (level p) (entry p) rs cols f → (I : List ℕ) → List·Memᴰ I (choose f cols) → OnlyWord p rs I
+  set-only none I m = record {
+    runs = G .some;
+    columns = set-projection I m .1;
+    none-shorter = chosen-only (level p) (entry p) rs cols
+        (λ i n. (G .sound .level-low i (K .inside i n), λ f m. G .sound .below f m i (K .inside i n))) f none I m;
+  }
 
   -- a ratio that can be compared, and that an f64 holds
   abbrev Exact : Fraction → Type 0

@@ -13,7 +13,7 @@ use Rattle.rules.specs.Refusals.{Check, refusal, unless, badPlace}
 use Rattle.sets.specs.Sets.{choose}
 use Rattle.words.specs.Words.{word}
 use Rattle.projections.specs.Projections.{relativeOf}
-use Rattle.resolution.specs.Resolution.{greatest, resolutionIn, ratioIn, ratioChecksIn}
+use Rattle.resolution.specs.Resolution.{greatest, resolutionIn, ratioIn, resolutionChecks}
 use Rattle.resolution.specs.declared.Chart.{Chart}
 use Rattle.resolution.specs.declared.Figure.{Figure}
 use Rattle.resolution.specs.declared.Figure.the-variants.{Ratio, Clear}
@@ -51,7 +51,7 @@ module _ (p : Plan) (rs : List ℕ) where
       }
 
   unfoldable pub chartAnswer : (List Check → List Check) → ChartAnswer
-  chartAnswer start = let r = refusal (start (ratioChecksIn p rs)) in record { refused = r; chart = unless r zeroChart chartOf }
+  chartAnswer start = let r = refusal (start (resolutionChecks p rs)) in record { refused = r; chart = unless r zeroChart chartOf }
 
   -- the largest ratio over sets of R columns holding column i
   unfoldable pub columnRatio : ℕ → Fraction
@@ -60,5 +60,5 @@ module _ (p : Plan) (rs : List ℕ) where
   -- column i's figure
   unfoldable pub figureAnswer : (List Check → List Check) → ℕ → FigureAnswer
   figureAnswer start i =
-      let r = refusal (start (badPlace (columns p) i ∷ ratioChecksIn p rs)) in
+      let r = refusal (start (badPlace (columns p) i ∷ resolutionChecks p rs)) in
       record { refused = r; figure = unless r Clear (figureOf (columnRatio i)) }

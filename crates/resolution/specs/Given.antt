@@ -16,7 +16,7 @@ use Rattle.words.specs.Words.{word}
 use Rattle.words.specs.Answers.{wordList}
 use Rattle.projections.specs.Given.{Tabled}
 use Rattle.projections.specs.Projections.{relativeOf}
-use Rattle.resolution.specs.Resolution.{greatest, resolutionIn, ratioIn, ratioChecksIn, thousandthsOf}
+use Rattle.resolution.specs.Resolution.{greatest, resolutionIn, ratioIn, resolutionChecks, thousandthsOf}
 use Rattle.resolution.specs.Charts.{quotient, zeroFigure, zeroChart, figureOf, columnRatio}
 use Rattle.resolution.specs.declared.ResolutionAnswer.{ResolutionAnswer}
 use Rattle.resolution.specs.declared.GeneralizedAnswer.{GeneralizedAnswer}
@@ -74,7 +74,7 @@ module _ (p : Plan) (rs : List ℕ) where
   }
 
   unfoldable pub ratingOf : (List Check → List Check) → ℕ → Rating
-  ratingOf start i = let r = refusal (start (ratioChecksIn p rs)) in unless r (refusing r) (measures i r)
+  ratingOf start i = let r = refusal (start (resolutionChecks p rs)) in unless r (refusing r) (measures i r)
 
 -- a call on levels, a table and a column: the checks of the plan and of the column, then its own
 abbrev pub ofColumn : Plan → ℕ → List Check → List Check

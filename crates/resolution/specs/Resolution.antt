@@ -11,7 +11,7 @@ use Rattle.exact.specs.Lists.{first}
 use Rattle.exact.specs.Fractions.{zeroFraction, smallerFraction, isBetter}
 use Rattle.exact.specs.declared.fractions.Fraction.{Fraction}
 use Rattle.rules.specs.Plan.{Plan, columns, level, entry, everyColumn}
-use Rattle.rules.specs.Refusals.{Check, refusal, unless, noResolution, aboveOne}
+use Rattle.rules.specs.Refusals.{Check, refusal, unless, noResolution}
 use Rattle.sets.specs.Sets.{choose}
 use Rattle.words.specs.Words.{word}
 use Rattle.projections.specs.Projections.{relativeOf}
@@ -31,7 +31,7 @@ greatestFrom x (y ∷ ys) = greatestFrom (greater x y) ys
 unfoldable pub greatest : List Fraction → Fraction
 greatest xs = greatestFrom zeroFraction xs
 
--- q, the smallest whole number for which q² · den is at least 1,000,000 · num; no ratio above 1 has a GR, so q is at most 1000
+-- q, the smallest whole number for which q² · den is at least 1,000,000 · num; the largest ratio is at most 1 (`ratio-at-most-one`), so q is at most 1000
 unfoldable pub rootOf : Fraction → ℕ
 rootOf x = first (λ q. leb (1_000_000 * x .num) (q * q * x .den)) 0 1000
 
@@ -48,10 +48,6 @@ module _ {R C : Type 0} (level : C → ℕ) (entry : R → C → ℕ) (rs : List
   unfoldable pub largestRatio : Fraction
   largestRatio = greatest (map (relativeOf level entry rs) (choose resolution cols))
 
-  -- the checks 11 and 12
-  abbrev pub ratioChecks : List Check
-  ratioChecks = noResolution (length cols) resolution ∷ aboveOne (largestRatio .num) (largestRatio .den) ∷ []
-
 -- ---- of some runs of a plan
 
 module _ (p : Plan) (rs : List ℕ) where
@@ -61,17 +57,18 @@ module _ (p : Plan) (rs : List ℕ) where
   abbrev pub ratioIn : Fraction
   ratioIn = largestRatio (level p) (entry p) rs (everyColumn p)
 
-  abbrev pub ratioChecksIn : List Check
-  ratioChecksIn = ratioChecks (level p) (entry p) rs (everyColumn p)
+  -- every answer that rests on R asks that there is one
+  abbrev pub resolutionChecks : List Check
+  resolutionChecks = noResolution (columns p) resolutionIn ∷ []
 
   unfoldable pub resolutionAnswer : (List Check → List Check) → ResolutionAnswer
   resolutionAnswer start =
-      let r = refusal (start (noResolution (columns p) resolutionIn ∷ [])) in record { refused = r; resolution = unless r 0 resolutionIn }
+      let r = refusal (start resolutionChecks) in record { refused = r; resolution = unless r 0 resolutionIn }
 
   -- R, the largest ratio, and GR in thousandths
   unfoldable pub generalizedAnswer : (List Check → List Check) → GeneralizedAnswer
   generalizedAnswer start =
-      let r = refusal (start ratioChecksIn) in
+      let r = refusal (start resolutionChecks) in
       record {
         refused = r;
         resolution = unless r 0 resolutionIn;

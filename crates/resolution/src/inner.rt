@@ -4,7 +4,7 @@ use exact::fractions::Verdict;
 use exact::fractions::smaller_fraction;
 use exact::signed;
 use plan::inner::several_levels;
-use projections::inner::value;
+use projections::inner::ratio;
 use rules::Refusal;
 use rules::sizes::MOST_COLUMNS;
 use sets::inner::binomial;
@@ -14,8 +14,9 @@ ghost use Prim.Native.Nat.{_≤_};
 ghost use lib.ListN.{length};
 ghost use Rattle.exact.specs.Fractions.{ShortDenominator};
 ghost use Rattle.exact.specs.Lists.{holds};
-ghost use Rattle.rules.specs.Plan.{plan, columns, everyRun, mostColumns};
+ghost use Rattle.rules.specs.Plan.{plan, columns, level, entry, everyRun, everyColumn, mostColumns};
 ghost use Rattle.sets.specs.Sets.{choose, setsOf};
+ghost use Rattle.counts.specs.Parts.{NoneShorter};
 ghost use Rattle.projections.specs.Given.{Projection, Tabled};
 ghost use Rattle.resolution.specs.Resolution.{greater};
 ghost use Rattle.resolution.specs.Given.{Measured, wordIn, firstAbove, ratiosOf, refusing, ratingOf, ofColumn};
@@ -77,7 +78,8 @@ fn holds(columns: &[usize], column: usize) -> bool
     false
 }
 
-// The largest ratio of the sets of `size` of these columns, and of those that hold the column: one walk over the sets.
+// The largest ratio of the sets of `size` of these columns, which have no shorter word, and of those that hold the column: one walk over
+// the sets.
 fn ratios_of(
     levels: &[u8],
     table: &[u8],
@@ -89,6 +91,7 @@ fn ratios_of(
     requires { ⌜ Tabled (plan (now levels) (now table)) (now runs)
         × (Projection (plan (now levels) (now table)) (now columns) × (length (now columns) ≤ mostColumns)) ⌝ }
     requires { ⌜ (1 ≤ size) × (size ≤ mostColumns) ⌝ }
+    requires { ⌜ (let p = plan (now levels) (now table) in NoneShorter (level p) (entry p) (now runs) (now columns) size) ⌝ }
     ensures { λ r.
         ⌜ (let p = plan (now (levels .entry)) (now (table .entry)) in
         r ≡ ratiosOf p (now (runs .entry)) (choose size (now (columns .entry))) column) ⌝ }
@@ -99,7 +102,7 @@ fn ratios_of(
     let mut held = Fraction { num: 0, den: 1 };
     for k in 0..many {
         let set = set_of(columns, size, k);
-        let ratio = value(levels, table, runs, &set[..size], true, &mut counters);
+        let ratio = ratio(levels, table, runs, &set[..size], &mut counters);
         largest = greater(largest, ratio);
         if holds(&set[..size], column) {
             held = greater(held, ratio);
@@ -117,6 +120,7 @@ pub fn largest_ratios(
     column: usize,
 ) -> Ratios
     requires { ⌜ Tabled (plan (now levels) (now table)) (now runs) × ((1 ≤ size) × (size ≤ length (now levels))) ⌝ }
+    requires { ⌜ (let p = plan (now levels) (now table) in NoneShorter (level p) (entry p) (now runs) (everyColumn p) size) ⌝ }
     ensures { λ r.
         ⌜ (let p = plan (now (levels .entry)) (now (table .entry)) in r ≡ ratiosOf p (now (runs .entry)) (setsOf (columns p) size) column) ⌝ }
 {
@@ -150,7 +154,7 @@ pub fn refusing(refused: Refusal) -> Rating
     }
 }
 
-// Refusals 11 and 12, and beside them the measures of the runs, whose words these are.
+// Refusal 11, and beside it the measures of the runs, whose words these are.
 pub fn rate(levels: &[u8], table: &[u8], runs: &[usize], words: &[i64; 24], column: usize) -> Rating
     requires { ⌜ Measured (plan (now levels) (now table)) (now runs) (now words) ⌝ }
     ensures { λ r.
@@ -164,9 +168,6 @@ pub fn rate(levels: &[u8], table: &[u8], runs: &[usize], words: &[i64; 24], colu
     let ratios = largest_ratios(levels, table, runs, size, column);
     let largest = ratios.largest;
     let held = ratios.held;
-    if largest.den < largest.num {
-        return refusing(Refusal::plain(12));
-    }
     let n = runs.len() as u64;
     let word = word_at(words, size);
     let next = word_at(words, size + 1);

@@ -199,21 +199,26 @@ passed-none checks k {r} e z c m = go r (subst⁻¹ (FirstThatApplies order chec
 pub none-passed : (checks : List Check) → T (known checks) → ((c : Check) → List·Memᴰ c checks → c .fails ≡ false) → refusal checks ≡ accepted
 none-passed checks k h = applies-unique order (refusal-first checks k) (none-fails (λ c m. false-is (c .fails) (h c m)))
 
-holds-all : (test : ℕ → Bool) (n : ℕ) (ks : List ℕ) → T (all ks test) → T (holds n ks) → T (test n)
-holds-all test n [] a h = absurd h
-holds-all test n (k ∷ ks) a h = go (eqb n k) refl (both (test k) (all ks test) a .0) (λ i. holds-all test n ks (both (test k) (all ks test) a .1) i)
+-- what 0 and the numbers ks pass, the number of the refusal passes
+tested : (test : ℕ → Bool) (ks : List ℕ) (checks : List Check) → T (test 0) → T (all ks test) → T (test (firstFailing (inOrder ks checks) .number))
+tested test [] checks z a = z
+tested test (k ∷ ks) checks z a = go (kept k checks (inOrder ks checks)) (both (test k) (all ks test) a .0)
+    (tested test ks checks z (both (test k) (all ks test) a .1))
   where
-    go : (b : Bool) → eqb n k ≡ b → T (test k) → (T (holds n ks) → T (test n)) → T (test n)
-    go true e t later = subst (λ j. T (test j)) (sym (eqb-true n k e)) t
-    go false e t later = later (rw e at h)
+    go : Kept k checks (inOrder ks checks) → T (test k) → T (test (firstFailing (inOrder ks checks) .number)) →
+        T (test (firstFailing (inOrder (k ∷ ks) checks) .number))
+    go (found c before after l e t o r) h later = rw (r, e) h
+    go (missing o r) h later = rw r later
 
--- no refusal has a number above 14
-pub number-most : (checks : List Check) → T (known checks) → refusal checks .number ≤ 14
-number-most checks k = go (refusal checks) (refusal-first checks k)
-  where
-    go : (r : Refusal) → FirstThatApplies order checks r → r .number ≤ 14
-    go r (none-fails p) = omega arith
-    go r (fails-first c F) = leb→le (number c) 14 (holds-all (λ n. leb n 14) (number c) order tt (known-mem checks k c (there F)))
+-- whatever the checks, the number is 0 or one of the order
+pub number-ordered : (checks : List Check) → T (holds (refusal checks .number) (0 ∷ order))
+number-ordered checks = tested (λ n. holds n (0 ∷ order)) order checks tt tt
+
+pub number-most : (checks : List Check) → refusal checks .number ≤ 14
+number-most checks = leb→le (refusal checks .number) 14 (tested (λ n. leb n 14) order checks tt tt)
+
+pub never-twelve : (checks : List Check) → ¬ (refusal checks .number ≡ 12)
+never-twelve checks e = subst (λ n. T (holds n (0 ∷ order))) e (number-ordered checks)
 
 -- each of the first checks stands earlier in the order than each of the others
 abbrev before : Check → List Check → Bool

@@ -1,4 +1,4 @@
--- Document 01, "Refusal numbers": the fourteen checks, their places and their order.
+-- Document 01, "Refusal numbers": the thirteen checks, their places and their order. Number 12 is not used: request #109 withdrew it.
 use mathlib.Core.Bool.{Bool, cond, not, _&&_, _||_}
 use mathlib.Core.List.{List, [], _∷_, _++_}
 use Prim.Native.Nat.{ℕ, _/_, _%_}
@@ -31,7 +31,7 @@ pub record Check : Type 0 where
 
 -- the order in which the checks stand
 abbrev pub order : List ℕ
-order = 13 ∷ 14 ∷ 1 ∷ 2 ∷ 3 ∷ 4 ∷ 5 ∷ 6 ∷ 8 ∷ 9 ∷ 10 ∷ 11 ∷ 12 ∷ 7 ∷ []
+order = 13 ∷ 14 ∷ 1 ∷ 2 ∷ 3 ∷ 4 ∷ 5 ∷ 6 ∷ 8 ∷ 9 ∷ 10 ∷ 11 ∷ 7 ∷ []
 
 -- the checks that concern a call, in that order
 abbrev pub ordered : List Check → List Check
@@ -50,7 +50,7 @@ refusal checks = firstFailing (ordered checks)
 abbrev pub unless : {A : Type 0} → Refusal → A → A → A
 unless r blank value = cond (refuses r) blank value
 
--- ---- the fourteen
+-- ---- the thirteen
 
 abbrev pub check : ℕ → Bool → Check
 check k b = record { fails = b; gives = plain k }
@@ -125,10 +125,6 @@ tooFew needed standing = check 10 (ltb standing needed)
 -- 11: every word of length 1 to m is zero, so that the search for R has passed m
 abbrev pub noResolution : ℕ → ℕ → Check
 noResolution m R = check 11 (ltb m R)
-
--- 12: the largest ratio, num over den, is above 1
-abbrev pub aboveOne : ℕ → ℕ → Check
-aboveOne num den = check 12 (ltb den num)
 
 -- 13: the text is too long
 abbrev pub tooLong : ℕ → Check

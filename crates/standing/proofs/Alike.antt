@@ -208,7 +208,7 @@ module _ {h k : Held} (A : Alike h k) where
   unfolding heldFigure figureAnswer
   alike-figure i =
       alike-answer A (λ p rs. figureAnswer p rs (ofHeld rs) i)
-      (λ levels t u rs a. rw (resolution-shown levels t u rs a, ratio-shown levels t u rs a, column-shown levels t u rs a i))
+      (λ levels t u rs a. rw (resolution-shown levels t u rs a, column-shown levels t u rs a i))
 
   pub alike-set-word : (f : ℕ) (I : List ℕ) → heldSetWord h f I .answer ≡ heldSetWord k f I .answer
   unfolding heldSetWord

@@ -5,10 +5,9 @@ use mathlib.Core.List.{List, [], _∷_}
 use Prim.Native.Nat.{_≤_, _<_}
 use native.Mathlib.Omega.{arith}
 use borrow.Author.Tests.{lt-ltb, le-ltb, ne-eqb}
-use lib.Dec.{T, eqb}
+use lib.Dec.{eqb}
 use lib.ListN.{length}
 use Rattle.rules.specs.Refusals.{Check, refusal, plain, accepted, tooFew}
-use Rattle.rules.proofs.Order.{known, number-most}
 use Rattle.held.specs.declared.Held.{Held}
 use Rattle.held.specs.Held.{standing, IsHeld, standingIn}
 use Rattle.held.proofs.Sizes.{sized}
@@ -36,12 +35,3 @@ module _ (h : Held) where
 
   pub enough-accepted : 2 ≤ length (standingIn h) → refusal (ofStanding h (tooFew 2 (length (standingIn h)) ∷ [])) ≡ accepted
   enough-accepted l = rw (ne-eqb (length (standingIn h)) 0 (λ e. omega arith), le-ltb (length (standingIn h)) 2 l)
-
--- ---- no refusal has a number above 14
-
-pub standing-most : (h : Held) (checks : List Check) → T (known checks) → refusal (ofStanding h checks) .number ≤ 14
-standing-most h checks k = go (eqb (length (standingIn h)) 0) refl
-  where
-    go : (b : Bool) → eqb (length (standingIn h)) 0 ≡ b → refusal (ofStanding h checks) .number ≤ 14
-    go true q = rw q (omega arith)
-    go false q = rw q (number-most checks k)

@@ -5,10 +5,10 @@ use Prim.Native.Nat.{ℕ, _≤_, _<_}
 use native.Mathlib.Decide.{decLe, ℕ-discrete}
 use native.Mathlib.Omega.{arith}
 use borrow.Author.Tests.{lt-ltb, le-ltb}
-use Rattle.rules.specs.Plan.{columns, level, entry, everyColumn}
+use Rattle.rules.specs.Plan.{columns}
 use Rattle.rules.specs.Refusals.{Check, refusal, plain, badPlace}
 use Rattle.projections.specs.Given.{Tabled}
-use Rattle.resolution.specs.Resolution.{resolution, ratioChecks}
+use Rattle.resolution.specs.Resolution.{resolutionIn, resolutionChecks}
 use Rattle.resolution.specs.Given.{Measured, firstAbove, refusing, ratingOf, Small, resolutionFrom}
 use Rattle.resolution.proofs.Resolved.{resolution-words}
 use Rattle.resolution.proofs.Rated.{own, refusing-small, rating-small}
@@ -30,18 +30,18 @@ module _ {h : Held} (H : IsHeld h) where
   measured n = record { tabled = tabled n; of-runs = words-standing H }
 
   pub resolution-found : resolutionFrom (h .columns) (firstAbove (h .words) (h .columns))
-      ≡ resolutionFrom (columns (planIn h)) (resolution (level (planIn h)) (entry (planIn h)) (standingIn h) (everyColumn (planIn h)))
+      ≡ resolutionFrom (columns (planIn h)) (resolutionIn (planIn h) (standingIn h))
   resolution-found =
       let m = sym (columns-in H) in
       ap₂ resolutionFrom m
       (ap₂ firstAbove (words-standing H) m ∙ resolution-words (planIn h) (standingIn h) (sized H .sound .columns-high))
 
-  module _ (i : ℕ) where
-    abbrev ratios : List Check
-    ratios = ratioChecks (level (planIn h)) (entry (planIn h)) (standingIn h) (everyColumn (planIn h))
+  abbrev asked : List Check
+  asked = resolutionChecks (planIn h) (standingIn h)
 
+  module _ (i : ℕ) where
     abbrev checks : List Check
-    checks = badPlace (columns (planIn h)) i ∷ ratios
+    checks = badPlace (columns (planIn h)) i ∷ asked
 
     pub rate-empty : h .runs ≡ 0 → refusing (plain 10) ≡ ratingOf (planIn h) (standingIn h) (ofStandingColumn h i) i
     rate-empty e = rating-refused (planIn h) (standingIn h) i (ofStandingColumn h i) (none-refuses H checks e) (λ q. omega arith)
@@ -52,7 +52,7 @@ module _ {h : Held} (H : IsHeld h) where
           rating-refused (planIn h) (standingIn h) i (ofStandingColumn h i)
           (some-asks H checks n ∙ rw (columns-in H, le-ltb i (h .columns) l)) (λ q. omega arith)
 
-      passes : i < h .columns → refusal (ofStandingColumn h i ratios) ≡ refusal ratios
+      passes : i < h .columns → refusal (ofStandingColumn h i asked) ≡ refusal asked
       passes l = some-asks H checks n ∙ rw (columns-in H, lt-ltb i (h .columns) l)
 
       pub rate-inside : i < h .columns → own (planIn h) (standingIn h) i ≡ ratingOf (planIn h) (standingIn h) (ofStandingColumn h i) i
@@ -72,6 +72,6 @@ module _ {h : Held} (H : IsHeld h) where
   pub column-zero : ratingOf (planIn h) (standingIn h) (ofStandingColumn h 0) 0 ≡ ratingOf (planIn h) (standingIn h) (ofStanding h) 0
   column-zero = rating-same (planIn h) (standingIn h) 0 (ofStandingColumn h 0) (ofStanding h) (go (ℕ-discrete (h .runs) 0))
     where
-      go : Dec (h .runs ≡ 0) → refusal (ofStandingColumn h 0 (ratios 0)) ≡ refusal (ofStanding h (ratios 0))
-      go (yes e) = none-refuses H (checks 0) e ∙ sym (none-refuses H (ratios 0) e)
-      go (no n) = passes 0 n (sized H .columns-low (omega arith)) ∙ sym (some-asks H (ratios 0) n)
+      go : Dec (h .runs ≡ 0) → refusal (ofStandingColumn h 0 asked) ≡ refusal (ofStanding h asked)
+      go (yes e) = none-refuses H (checks 0) e ∙ sym (none-refuses H asked e)
+      go (no n) = passes 0 n (sized H .columns-low (omega arith)) ∙ sym (some-asks H asked n)

@@ -60,7 +60,7 @@ module _ (p : Plan) (rs room : List ℕ) where
 module _ (p : Plan) (bytes : ℕ) {a : WriteAnswer} (e : a ≡ writeAnswer p (everyRun p) (ofPlan p) bytes) where
   pub write-number : a .refused .number ≤ 14
   unfolding writeAnswer
-  write-number = rw e (number-most (ofPlan p (badTextRoom p (everyRun p) bytes ∷ [])) tt)
+  write-number = rw e (number-most (ofPlan p (badTextRoom p (everyRun p) bytes ∷ [])))
 
   -- no answer has more bytes than a good plan's text
   pub write-few : a .bytes ≤ mostOfText

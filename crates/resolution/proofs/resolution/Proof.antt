@@ -1,14 +1,13 @@
 -- `resolution::resolution` meets its contract: a plan that passes its checks is good, and the search over its words finds R.
 use mathlib.Core.Path.{_≡_, _∙_, ap}
-use mathlib.Core.List.{[], _∷_}
 use Prim.Native.Nat.{ℕ}
 use Rattle.rules.specs.Plan.{Plan, plan, columns, everyRun}
-use Rattle.rules.specs.Refusals.{ofPlan, noResolution}
+use Rattle.rules.specs.Refusals.{ofPlan}
 use Rattle.rules.specs.declared.Refusal.{Refusal}
 use Rattle.plan.specs.Good.{Good}
 use Rattle.plan.proofs.Checks.{passed-good, plan-refused, plan-passed}
 use Rattle.words.proofs.Answered.{answer-refused}
-use Rattle.resolution.specs.Resolution.{resolutionIn, resolutionAnswer}
+use Rattle.resolution.specs.Resolution.{resolutionIn, resolutionChecks, resolutionAnswer}
 use Rattle.resolution.specs.Given.{firstAbove, resolutionFrom}
 use Rattle.resolution.specs.declared.ResolutionAnswer.{ResolutionAnswer}
 use Rattle.resolution.proofs.Resolved.{resolution-words}
@@ -38,7 +37,7 @@ returns c =
     let k = c .before .before in
     let p = given k in
     answer-refused made 0 (R p)
-    (plan-refused p (noResolution (columns p) (R p) ∷ []) tt (k .check .ensures) (c .if1 .taken)) (c .if1 .taken)
+    (plan-refused p (resolutionChecks p (everyRun p)) tt (k .check .ensures) (c .if1 .taken)) (c .if1 .taken)
 
 words-of-plan-requires : tie.Need-words-of-plan-requires
 words-of-plan-requires c κs = good c
@@ -60,7 +59,7 @@ returns-2 c =
     f .resolution .ensures ∙ ap (λ l. firstAbove l (columns p)) (w .words-of-plan .ensures) ∙ resolution-words p (everyRun p) (good e .columns-high) in
     c .resolution-of .ensures ∙ ap (resolutionFrom (columns p)) r
     ∙ resolution-answered p (everyRun p) (ofPlan p)
-    (plan-passed p (noResolution (columns p) (R p) ∷ []) tt (k .check .ensures) (e .if1 .left))
+    (plan-passed p (resolutionChecks p (everyRun p)) tt (k .check .ensures) (e .if1 .left))
 
 pub resolution-spec : {M : Type 1} → statement M
 resolution-spec =

@@ -10,6 +10,7 @@ use Rattle.exact.proofs.Numbers.{mul-below}
 use Rattle.exact.proofs.Members.{getD-mem}
 use Rattle.rules.specs.Plan.{plan, level, entry}
 use Rattle.counts.specs.Numbered.{numberOf}
+use Rattle.counts.specs.Parts.{mostNumbers}
 use Rattle.counts.proofs.Turns.{number-next, number-small}
 use Rattle.counts.proofs.inner.combination.Statement.{statement}
 use Rattle.counts.proofs.inner.combination.Tie as tie
@@ -39,7 +40,7 @@ module _ (l : tie.At-loop Inv-loop μ-loop) (h : l .loop .k < length (l .before 
       let i = getD (l .before .args .columns .now) (l .loop .k) 0 in
       (l .loop .number * level p i + entry p (l .before .args .run) i ≡
       numberOf (level p) (entry p) (l .before .args .run) (take (l .loop .k + 1) (l .before .args .columns .now)))
-      × (l .loop .number * level p i + entry p (l .before .args .run) i < 256)
+      × (l .loop .number * level p i + entry p (l .before .args .run) i < mostNumbers)
   next =
       let a = l .before .args in
       let p = plan (a .levels .now) (a .table .now) in

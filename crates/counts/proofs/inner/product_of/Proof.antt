@@ -45,7 +45,7 @@ mul-product c =
     let l = c .before .before .before in
     let i = getD (l .before .args .columns .now) (l .loop .k) 0 in
     let s = getD (l .before .args .levels .now) i 0 in
-    omega (arith, mul-below (l .loop .product) s 257 255 (omega arith) (omega (arith, c .shared-slice-known2 .given i)))
+    omega (arith, mul-below (l .loop .product) s 65537 255 (omega arith) (omega (arith, c .shared-slice-known2 .given i)))
 
 add-result : tie.Need-add-result Inv-loop μ-loop
 add-result c = omega arith

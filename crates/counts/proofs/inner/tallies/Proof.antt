@@ -58,7 +58,8 @@ module _ (l : tie.At-loop Inv-loop μ-loop) (h : l .loop .k < length (l .before 
 
 combination-requires : tie.Need-combination-requires Inv-loop μ-loop
 combination-requires c κs =
-    let l = c .before .before in (sound l (omega arith), l .before .before .before .before .before .pre .1)
+    let l = c .before .before in
+    let s = l .before .before .before .before .before in (sound l (omega arith), (s .pre .1 .0, omega (arith, s .pre .1 .1)))
 
 mul-counters : tie.Need-mul-counters Inv-loop μ-loop
 mul-counters c = omega (arith, c .combination .ensures, counted (c .before .before .before) (omega arith))

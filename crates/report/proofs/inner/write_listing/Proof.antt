@@ -10,8 +10,8 @@ use Rattle.plan.specs.Good.{Good}
 use Rattle.text.specs.Text.{planOf}
 use Rattle.text.proofs.Puts.{put-as}
 use Rattle.text.proofs.InFront.{InFront, entries-few, in-front}
-use Rattle.report.specs.Parts.{ratedListing}
-use Rattle.report.proofs.Texts.{listing-refused, listing-rated}
+use Rattle.report.specs.Listing.{planListing}
+use Rattle.report.proofs.Texts.{listing-refused, listing-accepted}
 use Rattle.report.proofs.inner.write_listing.Statement.{statement}
 use Rattle.report.proofs.inner.write_listing.Tie as tie
 
@@ -80,7 +80,7 @@ returns-2 c =
     let e = w .before .before .before .before .before in
     let F = front e in
     let k = e .before .before .before .before .before in
-    put-as (ap ratedListing (ap₂ plan (F .levels) (F .table)) ∙ listing-rated (textAt k) (k .read .ensures .0) (e .if1 .left)) (omega arith)
+    put-as (ap planListing (ap₂ plan (F .levels) (F .table)) ∙ listing-accepted (textAt k) (k .read .ensures .0) (e .if1 .left)) (omega arith)
     (w .write-plan .ensures)
 
 pub write-listing-spec : {M : Type 1} → statement M

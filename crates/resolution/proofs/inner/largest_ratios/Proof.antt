@@ -3,11 +3,13 @@ use mathlib.Core.Path.{_≡_, sym, _∙_, ap}
 use native.Mathlib.Omega.{arith}
 use lib.ListN.{take}
 use lib.Seq.{length-take-le}
-use Rattle.rules.specs.Plan.{Plan, plan, level, everyColumn, several}
+use Rattle.rules.specs.Plan.{Plan, plan, level, entry, everyColumn, several}
 use Rattle.sets.specs.Sets.{choose}
 use Rattle.plan.proofs.Several.{several-part, several-few, several-front, several-held}
+use Rattle.words.proofs.OneLevel.{words-several}
 use Rattle.projections.proofs.Products.{part-projection}
 use Rattle.resolution.specs.Given.{ratiosOf}
+use Rattle.resolution.proofs.Agreement.{all-below}
 use Rattle.resolution.proofs.OneLevel.{walk-several}
 use borrow.Author.Needs.{needs}
 use Rattle.resolution.proofs.inner.largest_ratios.Statement.{statement}
@@ -39,7 +41,7 @@ slice-aggregate-ratios-of c =
 ratios-of-requires : tie.Need-ratios-of-requires
 ratios-of-requires c κs =
     let f = c .before .before in
-    let T = start f .pre .0 in
+    let T = start f .pre .0 .0 in
     let p = given f in
     rw (lent f) (
       (
@@ -49,7 +51,12 @@ ratios-of-requires c κs =
           several-few p (T .sound .columns-high),
         ),
       ),
-      (start f .pre .1 .0, omega (arith, T .sound .columns-high, start f .pre .1 .1)),
+      (
+        (start f .pre .0 .1 .0, omega (arith, T .sound .columns-high, start f .pre .0 .1 .1)),
+        λ j l k.
+            sym (words-several (level p) (entry p) (start f .args .runs .now) (everyColumn p) (all-below p (start f .args .runs .now) (T .sound)) j)
+            ∙ start f .pre .1 j l k,
+      ),
     )
 
 returns : tie.Need-returns
@@ -59,7 +66,7 @@ returns c =
     let p = given f in
     c .ratios-of .ensures
     ∙ ap (λ cols. ratiosOf p (s .args .runs .now) (choose (s .args .size) cols) (s .args .column)) (lent f)
-    ∙ walk-several p (s .args .runs .now) (s .pre .0 .sound .level-low) (s .args .size) (s .args .column)
+    ∙ walk-several p (s .args .runs .now) (s .pre .0 .0 .sound .level-low) (s .args .size) (s .args .column)
 
 pub largest-ratios-spec : {M : Type 1} → statement M
 largest-ratios-spec =

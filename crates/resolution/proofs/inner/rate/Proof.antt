@@ -6,10 +6,11 @@ use native.Mathlib.Omega.{arith}
 use lib.ListN.{length}
 use Rattle.exact.proofs.Bits.{of}
 use Rattle.exact.proofs.Numbers.{mul-below}
-use Rattle.rules.specs.Plan.{Plan, plan, mostRuns}
+use Rattle.rules.specs.Plan.{Plan, plan, level, entry, everyColumn, mostRuns}
 use Rattle.resolution.specs.Resolution.{resolutionIn}
 use Rattle.resolution.specs.Given.{refusing}
-use Rattle.resolution.proofs.Rated.{found, from-one, read, rating-none, found-above, found-is}
+use Rattle.resolution.proofs.Agreement.{none-shorter, all-below}
+use Rattle.resolution.proofs.Rated.{found, from-one, read, rating-none, found-is}
 use borrow.Author.Needs.{needs}
 use Rattle.resolution.proofs.inner.rate.Statement.{statement}
 use Rattle.resolution.proofs.inner.rate.Tie as tie
@@ -47,26 +48,16 @@ returns c =
     c .refusing .ensures ∙ ap refusing (c .before .plain .ensures) ∙ rating-none (given k) (runs k) i (rw (is-resolution k) at (t .if1 .taken))
 
 largest-ratios-requires : tie.Need-largest-ratios-requires
-largest-ratios-requires c κs = (start (c .before) .pre .tabled, (low (c .before), c .if1 .left))
-
-plain-requires-2 : tie.Need-plain-requires-2
-plain-requires-2 c κs = search needs
-
-refusing-requires-2 : tie.Need-refusing-requires-2
-refusing-requires-2 c κs = search needs
-
-returns-2 : tie.Need-returns-2
-returns-2 c =
-    let t = c .before .before in
-    let w = t .before .before .before .before in
-    let k = w .before .before in
-    let i = start k .args .column in
-    c .refusing2 .ensures ∙ ap refusing (c .before .plain2 .ensures)
-    ∙ found-above (given k) (runs k) i (k .resolution .result) (w .largest-ratios .result) (is-resolution k) (w .largest-ratios .ensures)
-    (w .before .if1 .left) (t .if2 .taken)
+largest-ratios-requires c κs =
+    let k = c .before in
+    let p = given k in
+    let T = start k .pre .tabled in (
+      (T, (low k, c .if1 .left)),
+      λ j l h. none-shorter (level p) (entry p) (runs k) (everyColumn p) (all-below p (runs k) (T .sound)) j l (rw (is-resolution k) at h),
+    )
 
 word-at-requires : tie.Need-word-at-requires
-word-at-requires c κs = low (c .before .before .before .before .before .before)
+word-at-requires c κs = low (c .before .before .before .before)
 
 add-word-at : tie.Need-add-word-at
 add-word-at c = search needs
@@ -77,23 +68,22 @@ word-at-requires-2 c κs = search needs
 accepted-requires : tie.Need-accepted-requires
 accepted-requires c κs = search needs
 
-mul-t19 : tie.Need-mul-t19
-mul-t19 c =
-    let k = c .before .before .before .before .before .before .before .before .before in
+mul-t18 : tie.Need-mul-t18
+mul-t18 c =
+    let k = c .before .before .before .before .before .before .before in
     let few = start k .pre .tabled .sound .few in
     omega (arith, mul-below (length (runs k)) (length (runs k)) mostRuns mostRuns few few)
 
-returns-3 : tie.Need-returns-3
-returns-3 c =
+returns-2 : tie.Need-returns-2
+returns-2 c =
     let u = c .before .before in
-    let v = u .before in
-    let w = v .before .before .before .before in
+    let w = u .before .before .before in
     let k = w .before .before in
     let i = start k .args .column in
     let words = start k .args .words .now in
     let r = k .resolution .result in
     rw (c .accepted .ensures)
-    (found-is (given k) (runs k) i r (w .largest-ratios .result) (is-resolution k) (w .largest-ratios .ensures) _ _ (w .before .if1 .left) (v .if2 .left)
+    (found-is (given k) (runs k) i r (w .largest-ratios .result) (is-resolution k) (w .largest-ratios .ensures) _ _ (w .before .if1 .left)
     (of _ (u .word-at .ok) ∙ read (given k) (runs k) words (start k .pre) r _ (low k) (u .word-at .ensures))
     (of _ (c .before .word-at2 .ok) ∙ read (given k) (runs k) words (start k .pre) (r + 1) _ (omega arith) (c .before .word-at2 .ensures)))
 
@@ -106,12 +96,9 @@ rate-spec =
     refusing-requires
     returns
     largest-ratios-requires
-    plain-requires-2
-    refusing-requires-2
-    returns-2
     word-at-requires
     add-word-at
     word-at-requires-2
     accepted-requires
-    mul-t19
-    returns-3)
+    mul-t18
+    returns-2)

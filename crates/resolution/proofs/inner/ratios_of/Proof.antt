@@ -12,7 +12,7 @@ use Rattle.exact.specs.Fractions.{ShortDenominator}
 use Rattle.rules.specs.Plan.{Plan, plan, level, entry}
 use Rattle.sets.specs.Sets.{binom}
 use Rattle.exact.specs.declared.fractions.Fraction.{Fraction}
-use Rattle.counts.specs.Parts.{counted}
+use Rattle.counts.specs.Parts.{counted, OnlyWord}
 use Rattle.counts.proofs.Squared.{counted-none}
 use Rattle.projections.specs.Given.{Projection}
 use Rattle.projections.specs.Projections.{relativeOf}
@@ -21,7 +21,7 @@ use Rattle.projections.proofs.Values.{value-short}
 use Rattle.resolution.specs.Resolution.{greater}
 use Rattle.resolution.specs.declared.inner.Ratios.{Ratios}
 use Rattle.resolution.proofs.Walk.{before, before-all, largest-none, held-none, largest-next, held-next, other-next}
-use Rattle.resolution.proofs.Walk.{set-projection, largest-short, held-short}
+use Rattle.resolution.proofs.Walk.{set-projection, set-only, largest-short, held-short}
 use borrow.Author.Needs.{needs}
 use Rattle.resolution.proofs.inner.ratios_of.Statement.{statement}
 use Rattle.resolution.proofs.inner.ratios_of.Tie as tie
@@ -83,30 +83,35 @@ module _ (c : tie.After-set-of Inv-loop μ-loop) where
 
   projection : Projection given set × (1 ≤ length set)
   projection =
-      set-projection given runs cols (start .pre .0 .0) (start .pre .0 .1 .0) size (start .pre .1 .0) set (there cols size (loop .loop .k) inside)
+      set-projection given runs cols (start .pre .0 .0) (start .pre .0 .1 .0) size (start .pre .1 .0 .0) set (there cols size (loop .loop .k) inside)
+
+  only : OnlyWord given runs set
+  only =
+      set-only given runs cols (start .pre .0 .0) (start .pre .0 .1 .0) size (start .pre .1 .0 .0) (start .pre .1 .1) set
+      (there cols size (loop .loop .k) inside)
 
   largest-fits : ShortDenominator (loop .loop .largest)
   largest-fits =
-      rw (loop .loop .inv .2) (largest-short given runs cols (start .pre .0 .0) (start .pre .0 .1 .0) size (start .pre .1 .0) (start .args .column) (loop .loop .k))
+      rw (loop .loop .inv .2) (largest-short given runs cols (start .pre .0 .0) (start .pre .0 .1 .0) size (start .pre .1 .0 .0) (start .args .column) (loop .loop .k))
 
   held-fits : ShortDenominator (loop .loop .held)
-  held-fits = rw (loop .loop .inv .3) (held-short given runs cols (start .pre .0 .0) (start .pre .0 .1 .0) size (start .pre .1 .0) (start .args .column) (loop .loop .k))
+  held-fits = rw (loop .loop .inv .3) (held-short given runs cols (start .pre .0 .0) (start .pre .0 .1 .0) size (start .pre .1 .0 .0) (start .args .column) (loop .loop .k))
 
   long : size ≡ length (take size (c .set-of .result))
   long = sym (length-take-le size (c .set-of .result) (search needs))
 
-slice-aggregate-value : tie.Need-slice-aggregate-value Inv-loop μ-loop
-slice-aggregate-value c = long (c .before)
+slice-aggregate-ratio : tie.Need-slice-aggregate-ratio Inv-loop μ-loop
+slice-aggregate-ratio c = long (c .before)
 
-value-requires : tie.Need-value-requires Inv-loop μ-loop
-value-requires c κs = let s = c .before .before in ((start s .pre .0 .0, rw (lent s) (projection s)), loop s .loop .inv .4)
+ratio-requires : tie.Need-ratio-requires Inv-loop μ-loop
+ratio-requires c κs = let s = c .before .before in ((start s .pre .0 .0, rw (lent s) (projection s .0, only s)), loop s .loop .inv .4)
 
 -- its ratio
-module _ (c : tie.After-value Inv-loop μ-loop) where
-  ratio : c .value .result ≡ let s = c .before .before .before in relativeOf (level (given s)) (entry (given s)) (runs s) (set s)
-  ratio = let s = c .before .before .before in rw (lent s) at (c .value .ensures .0)
+module _ (c : tie.After-ratio Inv-loop μ-loop) where
+  ratio : c .ratio .result ≡ let s = c .before .before .before in relativeOf (level (given s)) (entry (given s)) (runs s) (set s)
+  ratio = let s = c .before .before .before in rw (lent s) at (c .ratio .ensures .0)
 
-  short : ShortDenominator (c .value .result)
+  short : ShortDenominator (c .ratio .result)
   short =
       let s = c .before .before .before in
       rw ratio (value-short (given s) (runs s) (set s) (start s .pre .0 .0) (projection s .0) (projection s .1) true)
@@ -158,7 +163,7 @@ loop-again c =
           ∙ sym (held-next (given s) (runs s) (cols s) i (size s) (l .k) (inside s) (sym (holding h) ∙ w .0 .taken)))
           (λ w. w .1 ∙ l .inv .3 ∙ sym (other-next (given s) (runs s) (cols s) i (size s) (l .k) (inside s) (sym (holding h) ∙ w .0 .left)))
           (c .if1 .came),
-      v .value .ensures .1,
+      v .ratio .ensures .1,
     )
 
 abbrev ratiosPair : Fraction → Fraction → Ratios
@@ -181,8 +186,8 @@ ratios-of-spec =
     loop-holds
     set-of-requires
     array-share-prefix-set
-    slice-aggregate-value
-    value-requires
+    slice-aggregate-ratio
+    ratio-requires
     greater-requires
     array-share-prefix-set-2
     slice-aggregate-holds

@@ -1,0 +1,36 @@
+-- `projections::inner::over` meets its contract: the word is its own size, and the denominator is above zero and small.
+use mathlib.Core.Path.{_∙_, ap}
+use Prim.Native.Nat.{_*_, _≤_}
+use native.Mathlib.Omega.{arith}
+use lib.IntN.{natAbs}
+use Rattle.exact.specs.Fractions.{reduced}
+use Rattle.exact.proofs.Bits.{back}
+use Rattle.projections.proofs.Values.{few-pairs, over-between}
+use borrow.Author.Needs.{needs}
+use Rattle.projections.proofs.inner.over.Statement.{statement}
+use Rattle.projections.proofs.inner.over.Tie as tie
+
+to-u64-requires : tie.Need-to-u64-requires
+to-u64-requires c κs = search needs
+
+returns : tie.Need-returns
+returns c =
+    let s = c .before .before in
+    let n = s .args .n in
+    c .reduced .ensures ∙ ap (λ x. reduced (natAbs x) (n * n * s .args .divisor)) (c .before .to-u64 .ensures ∙ back (s .fits .word))
+
+module _ (s : tie.Start) where
+  denominator : let n = s .args .n in (1 ≤ n * n * s .args .divisor) × (n * n * s .args .divisor ≤ 983_040)
+  denominator = over-between (s .args .n) (s .args .divisor) (s .pre .1 .0 .0) (s .pre .1 .0 .1) (s .pre .1 .1 .0) (s .pre .1 .1 .1)
+
+mul-reduced : tie.Need-mul-reduced
+mul-reduced c = omega (arith, few-pairs (c .before .args .n) (c .before .pre .1 .0 .1))
+
+mul-reduced-2 : tie.Need-mul-reduced-2
+mul-reduced-2 c = omega (arith, denominator (c .before))
+
+reduced-requires : tie.Need-reduced-requires
+reduced-requires c κs = denominator (c .before) .0
+
+pub over-spec : {M : Type 1} → statement M
+over-spec = tie.close (tie.spec to-u64-requires mul-reduced mul-reduced-2 reduced-requires returns)
