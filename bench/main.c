@@ -4,7 +4,8 @@
  * most 1.3 times as long as in C. With `judged` and with `emulated` the words
  * of its sets of four columns have to be 20 times faster by counts than by
  * pairs, and the largest ratio over sets of five columns 20 times faster than
- * by pairs in C.
+ * by pairs in C. With `answers` each work is done once, its answers are
+ * compared, and no time is taken.
  */
 #include "algorithms.h"
 #include "timing.h"
@@ -227,11 +228,72 @@ static int verdict(int slow, int not_faster, int ratio_not_faster)
     return differ || slow || not_faster || ratio_not_faster;
 }
 
+/* ---- answers alone */
+
+static void compare(const char *name, Work *library, Work *c)
+{
+    int differed = library() != c();
+    differ |= differed;
+    printf("%-26s %4ld %4ld%s\n", name, n, m, differed ? "  THE ANSWERS DIFFER" : "");
+}
+
+static void compare_words(long runs, long columns)
+{
+    make_any(runs, columns);
+    compare("words", word_of_library, word_of_c);
+    compare("words, C by rows", word_of_library, word_by_rows_of_c);
+    times_struck = 3;
+    compare("strike", strikes_of_library, strikes_of_c);
+    compare("recount", recount_of_library, recount_of_c);
+    compare("strike, recount", strikes_of_library, recount_of_c);
+}
+
+static void compare_tables(long f)
+{
+    size = f;
+    compare(f == 3 ? "table, f = 3" : "table, f = 4", table_of_library, table_of_c);
+}
+
+static void compare_by_pairs(long f)
+{
+    size = f;
+    compare(f == 3 ? "table f = 3, C by pairs" : "table f = 4, C by pairs", table_of_library, table_by_pairs_of_c);
+    compare(f == 3 ? "set words f = 3, by pairs" : "set words f = 4, by pairs", set_words_by_counts, set_words_by_pairs);
+}
+
+static void compare_ratios(long resolution, long runs, long columns)
+{
+    make_with_resolution(resolution, runs, columns);
+    compare("generalized resolution", ratio_of_library, ratio_of_c);
+    compare("listing", listing_of_library, listing_of_c);
+}
+
+/* On the plans that are timed; what is slow by pairs on those of 64 runs. */
+static void compare_all(void)
+{
+    compare_words(16, 5);
+    compare_words(64, 12);
+    compare_tables(3), compare_tables(4);
+    compare_by_pairs(3), compare_by_pairs(4);
+    compare_words(256, 24);
+    compare_tables(3), compare_tables(4);
+    for (long resolution = 3; resolution <= 5; resolution++) {
+        compare_ratios(resolution, 64, 12);
+        compare("largest ratio, C before", ratio_of_library, ratio_before_of_c);
+        compare_ratios(resolution, 256, 24);
+    }
+}
+
 int main(int count, char **arguments)
 {
     int judged = count > 1 && strcmp(arguments[1], "judged") == 0;
     emulated = count > 1 && strcmp(arguments[1], "emulated") == 0;
     fill_binomials();
+    if (count > 1 && strcmp(arguments[1], "answers") == 0) {
+        printf("each work once, by the library and in C; no time is taken\n%-26s %4s %4s\n", "", "runs", "cols");
+        compare_all();
+        return verdict(0, 0, 0);
+    }
     printf("%-26s %4s %4s %12s %12s %6s\n", "", "runs", "cols", "library us", "C us", "ratio");
     time_words(16, 5);
     time_words(64, 12);

@@ -10,7 +10,8 @@
  * called from several threads at once. A pointer whose length is 0 may be
  * null; any other must point to that many bytes, or to that many numbers
  * where it points to size_t. A room overlaps nothing else that is lent in
- * the same call.
+ * the same call. Below each call stands how much stack it takes, compiled for
+ * x86-64; a test of the library measures it.
  */
 #ifndef CRUMBCHORUS_H
 #define CRUMBCHORUS_H
@@ -18,9 +19,44 @@
 #include <stddef.h>
 #include <stdint.h>
 
+#define CRUMB_VERSION "0.7.0"
+#define CRUMB_VERSION_NUMBER 700 /* 10000 * major + 100 * minor + patch */
+
+/* The refusals: number, name, what is wrong, what to do. A call that is
+ * refused answers the number negated. Number 12 is not used. The checks stand
+ * in the order 13, 14, 1, 2, 3, 4, 5, 6, 8, 9, 10, 11, 7; the first that
+ * applies is given. A table of their words, for instance:
+ *
+ *     #define ROW(number, name, wrong, advice) { number, wrong, advice },
+ *     static const struct { int number; const char *wrong, *advice; }
+ *         refusals[] = { CRUMB_REFUSALS(ROW) { 0, "", "" } };
+ */
+#define CRUMB_REFUSALS(X) \
+    X(1, CRUMB_COLUMNS, "no column, or more than 24", "Write one level for each column in the first line.") \
+    X(2, CRUMB_LEVEL, "a level is outside 1 to 16", "The first line holds the levels: how many settings each column has.") \
+    X(3, CRUMB_PRODUCT, "the product of the levels is above 2,000,000,000", "Leave a column out, or write a smaller level.") \
+    X(4, CRUMB_RUNS, "no run, more than 256 runs, or part of a run", "A plan has 1 to 256 runs, each with one entry for each column.") \
+    X(5, CRUMB_ENTRY, "an entry is not below its level", "Entries are counted from 0: at level 3 they are 0, 1 and 2.") \
+    X(6, CRUMB_SIZE, "the number of columns or runs asked about is out of range", "Columns: 1 to 4 and no more than the plan has. Runs: 1 to 3.") \
+    X(7, CRUMB_ROOM, "a lent room is too small for the whole answer", "Lend a larger one.") \
+    X(8, CRUMB_RANGE, "a run, column, place or word length is out of range", "Runs, columns and places are counted from 0, lengths from 1.") \
+    X(9, CRUMB_ALREADY, "the run is already struck, or already standing", "Name each run once.") \
+    X(10, CRUMB_TOO_FEW, "fewer runs stand than the call needs", "The last standing run cannot be struck.") \
+    X(11, CRUMB_NO_RESOLUTION, "every word is zero, so there is no resolution", "The plan has every level combination equally often.") \
+    X(13, CRUMB_TOO_LONG, "the text is longer than 32,768 bytes", "A plan of 256 runs and 24 columns is shorter: is this a plan?") \
+    X(14, CRUMB_MALFORMED, "a line of the text is malformed", "A line is numbers with single commas, as many as in line 1, and a line end.")
+
+#define CRUMB_REFUSAL_NAME(number, name, wrong, advice) , name = number
+enum crumb_refusal { CRUMB_ANSWERED = 0 CRUMB_REFUSALS(CRUMB_REFUSAL_NAME) };
+
 #ifdef __cplusplus
 extern "C" {
 #endif
+
+/* The version of the library that is linked, as CRUMB_VERSION_NUMBER has that
+ * of the header.
+ */
+uint64_t crumb_version(void);
 
 /* The scaled word of one length, 1 to the number of columns: the sum, over
  * all sets of that many columns and all ordered pairs of runs (a run with
@@ -36,8 +72,7 @@ extern "C" {
  *   -8  the length is outside 1 .. the number of columns
  * The first that applies, in this order, is given.
  *
- * It is for small machines too: compiled for x86-64 it uses less than 2 KB of
- * stack, which a test of the library measures.
+ * Stack: less than 2 KB.
  */
 int64_t crumb_word(const uint8_t *levels, size_t columns,
                    const uint8_t *table, size_t entries,
@@ -55,8 +90,8 @@ int64_t crumb_word(const uint8_t *levels, size_t columns,
  * The listing has the runs and columns, a line for each word (length,
  * numerator, denominator; a reduced fraction), the strength, the resolution
  * with the largest ratio and the generalized resolution in thousandths, and
- * the run advised for loss. The resolution is always the strength and one,
- * or `none` where the strength is the number of columns. For a text that is
+ * the run advised for loss. The resolution is the strength + 1, or `none`
+ * where the strength is the number of columns. For a text that is
  * refused it is one line, `refused`, the number and its two places; 13 is a
  * text of more than 32,768 bytes, 14 a malformed line, and the others are
  * those above.
@@ -66,8 +101,7 @@ int64_t crumb_word(const uint8_t *levels, size_t columns,
  * they were. Where the room is smaller than the listing the answer is -7 and
  * no byte of the room is written.
  *
- * Compiled for x86-64 it uses less than 192 KB of stack, 128 KB of it to count
- * level combinations, which a test of the library measures.
+ * Stack: less than 192 KB, 128 KB of it to count level combinations.
  */
 int64_t crumb_listing(const uint8_t *text, size_t length,
                       uint8_t *room, size_t bytes);
@@ -81,6 +115,8 @@ int64_t crumb_listing(const uint8_t *text, size_t length,
  * they were. A negative answer is a refusal number, negated: -1 to -5 as
  * above, then -7 where the room is smaller than the text. In a refusal no
  * byte of the room is written.
+ *
+ * Stack: less than 32 KB.
  */
 int64_t crumb_write(const uint8_t *levels, size_t columns,
                     const uint8_t *table, size_t entries,
@@ -105,6 +141,8 @@ int64_t crumb_write(const uint8_t *levels, size_t columns,
  *   -7  the room is smaller than the text, or `places` is below the number
  *       of runs left
  * In a refusal nothing is written to either room.
+ *
+ * Stack: less than 64 KB.
  */
 int64_t crumb_rewrite(const uint8_t *text, size_t length,
                       const size_t *lost, size_t losses,

@@ -1,18 +1,20 @@
-/* How much stack the words and the listing of the largest plan use: the call
- * is made on a stack of our own, painted before it, and the paint that is left
- * is counted. Prints the bytes, and the exit status is not 0 where they are
- * 2,048 or more for the words, or 196,608 for the listing.
+/* How much stack each call uses for the largest plan: the call is made on a
+ * stack of our own, painted before it, and the paint that is left is counted.
+ * Prints the bytes, and the exit status is not 0 where a call uses as much as
+ * the header says it does not.
  */
 #include "crumbchorus.h"
 
 int printf(const char *format, ...);
 
-enum { COLUMNS = 24, RUNS = 256, ROOM = 1 << 18, LIMIT = 2048, LISTING_LIMIT = 196608 };
+enum { COLUMNS = 24, RUNS = 256, ROOM = 1 << 18 };
 
 static uint8_t levels[COLUMNS], table[RUNS * COLUMNS];
 static uint8_t room[ROOM] __attribute__((aligned(16)));
 static const uint8_t paint = 0xA5;
-static uint8_t text[2 * (RUNS + 1) * COLUMNS], listing[2048];
+static uint8_t text[2 * (RUNS + 1) * COLUMNS], written[18504];
+static const size_t lost[2] = { 5, 10 };
+static size_t numbers[RUNS];
 static int64_t answer;
 
 /* Column i is the parity of the bits that the run's number and i + 1 share. */
@@ -39,7 +41,17 @@ static void ask_word(void)
 
 static void ask_listing(void)
 {
-    answer = crumb_listing(text, sizeof text, listing, sizeof listing);
+    answer = crumb_listing(text, sizeof text, written, sizeof written);
+}
+
+static void ask_write(void)
+{
+    answer = crumb_write(levels, COLUMNS, table, sizeof table, written, sizeof written);
+}
+
+static void ask_rewrite(void)
+{
+    answer = crumb_rewrite(text, sizeof text, lost, 2, written, sizeof written, numbers, RUNS);
 }
 
 /* Calls `work` with the end of the room as its stack. */
@@ -63,14 +75,22 @@ static long used(void)
     return ROOM - left;
 }
 
+static const struct { const char *name; void (*work)(void); long limit; } calls[] = {
+    { "crumb_word", ask_word, 2048 },
+    { "crumb_listing", ask_listing, 196608 },
+    { "crumb_write", ask_write, 32768 },
+    { "crumb_rewrite", ask_rewrite, 65536 },
+};
+
 int main(void)
 {
+    int over = 0;
     make_plan();
     write_text();
-    on_painted_stack(ask_word);
-    printf("the words of %d runs and %d columns: W_3 = %ld, %ld bytes of stack\n", RUNS, COLUMNS, (long)answer, used());
-    int over = answer < 0 || used() >= LIMIT;
-    on_painted_stack(ask_listing);
-    printf("their listing: %ld bytes, %ld bytes of stack\n", (long)answer, used());
-    return over || answer < 0 || used() >= LISTING_LIMIT;
+    for (unsigned k = 0; k < sizeof calls / sizeof *calls; k++) {
+        on_painted_stack(calls[k].work);
+        printf("%s, %d runs and %d columns: %ld, %ld bytes of stack\n", calls[k].name, RUNS, COLUMNS, (long)answer, used());
+        over |= answer < 0 || used() >= calls[k].limit;
+    }
+    return over;
 }

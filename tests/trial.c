@@ -6,11 +6,13 @@
  * seed and what it tried.
  *
  * Arguments: the seed, and 1 for a short run, 2 for a short run of the sets
- * alone. The exit status is not 0 where an answer differed or the reference
- * failed by itself, and in a full run also where a function was tried less than 100,000 times (sets of columns
+ * alone, 3 for a tenth of the full run's rounds. The exit status is not 0
+ * where an answer differed or the reference failed by itself, and in a full
+ * run also where a function was tried less than 100,000 times (sets of columns
  * 50,000, all sets of a size 15,000 times), or a refusal, two refusals at once
  * or two damages in their order did not come up, or plans with columns of one
- * level, without any or of such alone fewer than 10,000 times.
+ * level, without any or of such alone fewer than 10,000 times. A tenth has to
+ * reach a tenth of these numbers, and all the rest.
  *
  * It declares what it needs of the C library, so that it compiles with the
  * kit's own clang, which comes without headers.
@@ -356,33 +358,54 @@ static void boundaries(int full)
     one_level_columns(&plan, full);
 }
 
-static void everything_but_sets(int full)
+/* ---- how much is tried */
+
+enum { FULL, SHORT, SHORT_SETS, TENTH, KINDS };
+
+static unsigned long kind;
+
+/* So many in a full run, a tenth of them in a tenth, and a few in a short run. */
+static long rounds(long all, long few)
 {
-    generated(full ? 120000 : 2000);
-    damaged(full ? 400 : 4, &words, damaged_word);
-    damaged(full ? 120 : 2, &listings, damaged_listing);
-    boundaries(full);
-    generated_writers(full ? 100000 : 2000);
-    damaged(full ? 250 : 4, &writes, damaged_write);
-    damaged(full ? 40 : 2, &rewrites, damaged_rewrite);
+    return kind == FULL ? all : kind == TENTH ? all / 10 : few;
 }
 
-static void all_sets(int full)
+/* Everything at the limits, in a tenth too. */
+static int every_limit(void)
 {
-    generated_sets(full ? 30000 : 2000);
-    damaged(full ? 60 : 2, &sets, damaged_set);
-    damaged(full ? 60 : 2, &set_words, damaged_set_words);
-    sets_at_limits(full);
+    return kind == FULL || kind == TENTH;
+}
+
+static void everything_but_sets(void)
+{
+    generated(rounds(120000, 2000));
+    damaged(rounds(400, 4), &words, damaged_word);
+    damaged(rounds(120, 2), &listings, damaged_listing);
+    boundaries(every_limit());
+    generated_writers(rounds(100000, 2000));
+    damaged(rounds(250, 4), &writes, damaged_write);
+    damaged(rounds(40, 2), &rewrites, damaged_rewrite);
+}
+
+static void all_sets(void)
+{
+    generated_sets(rounds(30000, 2000));
+    damaged(rounds(60, 2), &sets, damaged_set);
+    damaged(rounds(60, 2), &set_words, damaged_set_words);
+    sets_at_limits(every_limit());
 }
 
 int main(int count, char **arguments)
 {
-    unsigned long seed = argument(count, arguments, 1, 20261115), kind = argument(count, arguments, 2, 0);
-    int full = kind == 0;
+    static const char *const names[KINDS] = { "", ", a short run", ", a short run of the sets", ", a tenth of the rounds" };
+    unsigned long seed = argument(count, arguments, 1, 20261115);
+    kind = argument(count, arguments, 2, FULL);
+    if (kind >= KINDS)
+        return 2;
     start_draws(seed);
-    printf("seed %lu%s\n", seed, full ? "" : ", a short run");
-    if (kind != 2)
-        everything_but_sets(full);
-    all_sets(full);
-    finish(full);
+    printf("seed %lu%s\n", seed, names[kind]);
+    if (kind != SHORT_SETS)
+        everything_but_sets();
+    all_sets();
+    finish(kind == FULL ? 1 : kind == TENTH ? 10 : 0);
 }

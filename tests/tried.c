@@ -89,33 +89,34 @@ static long damages_missing(const Tally *tally)
     return missing;
 }
 
-static int too_little(const Tally *tally)
+static int too_little(const Tally *tally, long parts)
 {
     long missing = refusals_missing(tally) + two_refusals_missing(tally) + damages_missing(tally);
-    int few = tally->tried < tally->least || missing > 0;
+    int few = tally->tried < tally->least / parts || missing > 0;
     if (few)
         printf("%s: NOT enough was tried\n", tally->name);
     return few;
 }
 
-static int too_few_levels(void)
+static int too_few_levels(long parts)
 {
-    int few = without < LEAST_LEVELS || beside < LEAST_LEVELS || alone < LEAST_LEVELS;
+    long least = LEAST_LEVELS / parts;
+    int few = without < least || beside < least || alone < least;
     if (few)
         printf("columns of one level: NOT enough was tried\n");
     return few;
 }
 
-void finish(int full)
+void finish(long parts)
 {
     int status = differences > 0;
     printf("plans generated: %ld without a column of one level, %ld with such beside others, %ld of such alone\n",
            without, beside, alone);
     for (int k = 0; k < TALLIES; k++)
         print_met(tallies[k]);
-    for (int k = 0; full && k < TALLIES; k++)
-        status |= too_little(tallies[k]);
-    status |= full && too_few_levels();
+    for (int k = 0; parts && k < TALLIES; k++)
+        status |= too_little(tallies[k], parts);
+    status |= parts && too_few_levels(parts);
     status |= reference_fails();
     printf("%s: %ld differ\n", differences == 0 ? "the same" : "NOT the same", differences);
     exit(status);

@@ -45,7 +45,7 @@ void print_text(const Text *t);
 void print_losses(const Losses *l);
 void print_columns(const Columns *c);
 
-/* Prints what was tried, and ends the program. */
-void finish(int full);
+/* Prints what was tried, and ends the program. Demanded is one part of so many of a full run; 0 demands nothing. */
+void finish(long parts);
 
 #endif

@@ -12,7 +12,7 @@ use Rattle.rules.specs.Plan.{Plan, columns}
 use Rattle.rules.specs.Refusals.{refusal, accepted, plain, unless, ofPlan, badSize, badRoom}
 use Rattle.rules.proofs.Ranges.{unless-refused}
 use Rattle.plan.proofs.Checks.{good-own}
-use Rattle.words.proofs.Answered.{answer-refused}
+use Rattle.plan.proofs.Answers.{answer-refused}
 use Rattle.projections.specs.Given.{SizeOf}
 use Rattle.projections.proofs.Answers.{plan-given, size-refused}
 use Rattle.frequencies.specs.declared.TableAnswer.{TableAnswer}

@@ -1,16 +1,22 @@
-// Reads plan text and writes its listing. Room for one byte more than the longest text shows a longer one as such.
+// Reads plan text and writes its listing.
 use libc::STDIN_FILENO;
-use libc::STDOUT_FILENO;
 use report::MOST_BYTES;
-use rules::sizes::LONGEST_TEXT;
-
-const TEXT_ROOM: usize = LONGEST_TEXT + 1;
 
 fn main() {
-    let mut text = [0u8; TEXT_ROOM];
-    let size = io::read_full(STDIN_FILENO, &mut text);
+    let mut text = console::text_room();
+    let read = console::read_text(STDIN_FILENO, &mut text);
+    if read.failed {
+        console::not_read();
+        return;
+    }
+    let size = read.size;
     let mut lines = [0u8; MOST_BYTES];
     let answer = report::listing(&text[..size], &mut lines);
     let bytes = answer.bytes;
-    io::write_all(STDOUT_FILENO, &lines[..bytes]);
+    let refused = console::refusal_of(&text[..size]);
+    if refused.number != 0 {
+        console::refuse(&lines[..bytes], &text[..size], refused);
+        return;
+    }
+    console::write(&lines[..bytes]);
 }

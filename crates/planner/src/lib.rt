@@ -12,7 +12,15 @@ ghost use Rattle.text.specs.Reader.{filled};
 ghost use Rattle.writer.specs.Writer.{writeText, writeAnswer};
 ghost use Rattle.handover.specs.Handover.{rewriteAnswer, rewritten, runsLeft};
 ghost use Rattle.report.specs.Listing.{plannerListing, listingRoom};
-ghost use Rattle.planner.specs.Exports.{bytesOr};
+ghost use Rattle.planner.specs.Exports.{version, bytesOr};
+
+// The version of this library, as the header writes it.
+#[no_mangle]
+pub extern "C" fn crumb_version() -> u64
+    ensures { λ r. ⌜ r ≡ version ⌝ }
+{
+    700
+}
 
 fn negated(number: u64) -> i64
     requires { ⌜ number ≤ 14 ⌝ }

@@ -22,9 +22,6 @@ mod tables;
 // 256 runs of 24 columns.
 const MOST_ENTRIES: usize = 6144;
 
-// The longest text and one byte more, so that a longer one is refused.
-const TEXT_ROOM: usize = 32_769;
-
 fn show_plan(name: &[u8], levels: &[u8], table: &[u8]) {
     put(b"array ");
     put(name);
@@ -55,15 +52,13 @@ fn show_file(argument: usize) {
         return;
     }
     let name = &path[..length];
-    let fd = os::open_read(name);
-    if fd < 0 {
-        os::fail(name);
+    let mut text = console::text_room();
+    let read = console::read_file(name, &mut text);
+    if read.failed {
         return;
     }
-    let mut text = [0u8; TEXT_ROOM];
-    let n = io::read_full(fd, &mut text);
-    libc::close(fd);
-    show_text(name, &text[..n]);
+    let size = read.size;
+    show_text(name, &text[..size]);
 }
 
 fn main() {

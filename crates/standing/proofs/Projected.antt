@@ -15,7 +15,7 @@ use Rattle.rules.specs.Refusals.{Check, refusal, unless, plain, accepted, badSi
 use Rattle.rules.specs.declared.Refusal.{Refusal}
 use Rattle.rules.proofs.Order.{each-cons, inTurn, passed-none, none-passed, refused-by-first, passed-by-first}
 use Rattle.rules.proofs.Ranges.{inside, unless-refused}
-use Rattle.words.proofs.Answered.{answer-refused}
+use Rattle.plan.proofs.Answers.{answer-refused}
 use Rattle.frequencies.specs.Frequencies.{Line, Rooms, shortest, filled, tableAnswer, tableRooms}
 use Rattle.projections.specs.Given.{SizeOf}
 use Rattle.held.specs.declared.Held.{Held}

@@ -9,5 +9,6 @@ pub mod LineLoop
 pub mod TextLoop
 pub mod Writing
 pub mod Answers
+pub mod PlanFits
 pub mod InFront
 pub mod Figures

@@ -1,10 +1,9 @@
--- What stands beside a refusal, and the answers of a whole plan.
-use mathlib.Core.Path.{_≡_, refl, sym, _∙_, ap}
+-- What the routines of a whole plan are lent, and the word of one length.
+use mathlib.Core.Path.{_≡_, refl, _∙_, ap}
 use mathlib.Core.List.{List, [], _++_, List·Memᴰ·head, List·Memᴰ·tail, List·Memᴰ·not-nil}
 use Prim.Native.Nat.{ℕ, _+_, _-_, _≤_}
 use native.Mathlib.Omega.{arith}
 use borrow.Author.Tests.{ltb-false}
-use lib.Dec.{T}
 use lib.ListN.{getD, take, replicate}
 use lib.Seq.{take-at}
 use lib.IntN.{pos}
@@ -12,36 +11,12 @@ use Rattle.exact.specs.Lists.{from, product}
 use Rattle.exact.proofs.Numbers.{length-from, map-from-at}
 use Rattle.rules.specs.declared.Refusal.{Refusal}
 use Rattle.rules.specs.Plan.{Plan, plan, columns, level, entry, everyColumn, mostColumns, mostRuns, highestProduct}
-use Rattle.rules.specs.Refusals.{Check, refusal, unless, ofPlan, accepted, levelChecks, badColumns, badLevel, badProduct, planChecks}
-use Rattle.rules.proofs.Ranges.{unless-refused, unless-accepted}
-use Rattle.rules.proofs.Order.{inTurn, passed-none}
+use Rattle.rules.specs.Refusals.{refusal, levelChecks, badColumns, badLevel, badProduct}
+use Rattle.rules.proofs.Order.{passed-none}
 use Rattle.plan.specs.Good.{Sound}
-use Rattle.plan.proofs.Checks.{columns-passed, levels-passed, passed-good, good-passed, plan-refused, plan-passed}
+use Rattle.plan.proofs.Checks.{columns-passed, levels-passed}
 use Rattle.words.specs.Words.{word}
 use Rattle.words.specs.Answers.{wordList}
-
--- ---- an answer is made of the call's refusal q and the value, which is blank in a refusal
-
-module _ {A B : Type 0} (make : Refusal → A → B) (blank value : A) where
-  abbrev pub answer : Refusal → B
-  answer q = make q (unless q blank value)
-
-  pub answer-refused : {q r : Refusal} → q ≡ r → ¬ (r .number ≡ 0) → make r blank ≡ answer q
-  answer-refused {q} {r} e n = rw e (ap (make r) (sym (unless-refused r blank value n)))
-
-  pub answer-accepted : {q r : Refusal} → q ≡ r → r .number ≡ 0 → make r value ≡ answer q
-  answer-accepted {q} {r} e z = rw e (ap (make r) (sym (unless-accepted r blank value z)))
-
-  -- of a call on a plan: r is what `plan::check` gave, and the call's own checks stand later in the order
-  module _ (p : Plan) (checks : List Check) (turn : T (inTurn (planChecks p) checks)) {r : Refusal} (e : r ≡ refusal (planChecks p)) where
-    pub call-refused : ¬ (r .number ≡ 0) → make r blank ≡ answer (refusal (ofPlan p checks))
-    call-refused n = answer-refused (plan-refused p checks turn e n) n
-
-    pub call-own : {q : Refusal} → r .number ≡ 0 → refusal checks ≡ q → ¬ (q .number ≡ 0) → make q blank ≡ answer (refusal (ofPlan p checks))
-    call-own z own n = answer-refused (plan-passed p checks turn e z ∙ own) n
-
-    pub call-accepted : r .number ≡ 0 → refusal checks ≡ accepted → make r value ≡ answer (refusal (ofPlan p checks))
-    call-accepted z own = answer-accepted (plan-passed p checks turn e z ∙ own ∙ sym (e ∙ good-passed p (passed-good p e z))) z
 
 -- ---- what the routines of a whole plan are lent
 

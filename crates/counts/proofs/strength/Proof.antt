@@ -9,7 +9,8 @@ use Rattle.rules.specs.Plan.{plan, runs, level, entry, everyRun, everyColumn}
 use Rattle.plan.specs.Good.{Good}
 use Rattle.plan.proofs.Checks.{passed-good}
 use Rattle.plan.proofs.Sound.{good-sound}
-use Rattle.words.proofs.Answered.{answer-refused, answer-accepted, run-front}
+use Rattle.plan.proofs.Answers.{answer-refused, answer-accepted}
+use Rattle.words.proofs.Answered.{run-front}
 use Rattle.counts.specs.declared.StrengthAnswer.{StrengthAnswer}
 use Rattle.counts.specs.Counts.{strength, strengthAnswer}
 use borrow.Author.Needs.{needs}

@@ -6,8 +6,8 @@ use lib.IntN.{ℤ, pos}
 use Rattle.exact.proofs.Bits.{of}
 use Rattle.rules.specs.declared.Refusal.{Refusal}
 use Rattle.rules.specs.Plan.{Plan, plan, level, entry, everyRun}
+use Rattle.plan.proofs.Answers.{answer-refused, answer-accepted}
 use Rattle.words.specs.Words.{wordOf}
-use Rattle.words.proofs.Answered.{answer-refused, answer-accepted}
 use Rattle.projections.specs.declared.SetWordAnswer.{SetWordAnswer}
 use Rattle.projections.specs.Projections.{setWordAnswer}
 use Rattle.projections.proofs.Answers.{set-plan, set-few, set-given}

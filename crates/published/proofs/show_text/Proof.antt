@@ -5,7 +5,7 @@ use Prim.Native.Nat.{_*_, _≤_}
 use native.Mathlib.Omega.{arith}
 use lib.ListN.{replicate}
 use lib.Seq.{length-take-le}
-use Rattle.published.proofs.Fits.{plan-fits}
+use Rattle.text.proofs.PlanFits.{plan-fits}
 use Rattle.published.proofs.show_text.Statement.{statement}
 use Rattle.published.proofs.show_text.Tie as tie
 

@@ -6,7 +6,7 @@ use Rattle.rules.specs.Refusals.{ofPlan}
 use Rattle.rules.specs.declared.Refusal.{Refusal}
 use Rattle.plan.specs.Good.{Good}
 use Rattle.plan.proofs.Checks.{passed-good, plan-refused, plan-passed}
-use Rattle.words.proofs.Answered.{answer-refused}
+use Rattle.plan.proofs.Answers.{answer-refused}
 use Rattle.resolution.specs.Resolution.{resolutionIn, resolutionChecks, resolutionAnswer}
 use Rattle.resolution.specs.Given.{firstAbove, resolutionFrom}
 use Rattle.resolution.specs.declared.ResolutionAnswer.{ResolutionAnswer}

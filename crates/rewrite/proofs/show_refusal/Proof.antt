@@ -23,12 +23,12 @@ fits c =
 array-share-prefix-line : tie.Need-array-share-prefix-line
 array-share-prefix-line c = fits (c .before)
 
-slice-aggregate-write-all : tie.Need-slice-aggregate-write-all
-slice-aggregate-write-all c =
+slice-aggregate-refuse : tie.Need-slice-aggregate-refuse
+slice-aggregate-refuse c =
     let w = c .before .before in sym (length-take-le (w .refusal-line .result) (w .refusal-line .last .1 .0) (fits w))
 
-write-all-requires : tie.Need-write-all-requires
-write-all-requires c κs = search needs
+refuse-requires : tie.Need-refuse-requires
+refuse-requires c κs = search needs
 
 returns : tie.Need-returns
 returns c = search needs
@@ -40,6 +40,6 @@ show-refusal-spec =
     slice-aggregate-refusal-line
     refusal-line-requires
     array-share-prefix-line
-    slice-aggregate-write-all
-    write-all-requires
+    slice-aggregate-refuse
+    refuse-requires
     returns)

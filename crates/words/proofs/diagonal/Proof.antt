@@ -5,9 +5,10 @@ use mathlib.Core.List.{List, []}
 use lib.IntN.{ℤ}
 use Rattle.rules.specs.declared.Refusal.{Refusal}
 use Rattle.rules.specs.Plan.{plan}
+use Rattle.plan.proofs.Answers.{answer-refused, answer-accepted}
 use Rattle.words.specs.declared.DiagonalAnswer.{DiagonalAnswer}
 use Rattle.words.specs.Answers.{zeros, diagonalList, diagonalAnswer}
-use Rattle.words.proofs.Answered.{answer-refused, answer-accepted, levels-sound}
+use Rattle.words.proofs.Answered.{levels-sound}
 use Rattle.words.proofs.diagonal.Statement.{statement}
 use Rattle.words.proofs.diagonal.Tie as tie
 

@@ -6,10 +6,10 @@ use lib.ListN.{replicate}
 use Rattle.rules.specs.declared.Refusal.{Refusal}
 use Rattle.rules.specs.Plan.{Plan, plan, everyRun, mostRuns}
 use Rattle.plan.proofs.Checks.{passed-good}
+use Rattle.plan.proofs.Answers.{call-refused, call-accepted}
 use Rattle.words.specs.declared.Sums.{Sums}
 use Rattle.words.specs.declared.RowSumsAnswer.{RowSumsAnswer}
 use Rattle.words.specs.Answers.{zeros, rowsByRun, rowSumsAnswer}
-use Rattle.words.proofs.Answered.{call-refused, call-accepted}
 use Rattle.words.proofs.row_sums.Statement.{statement}
 use Rattle.words.proofs.row_sums.Tie as tie
 

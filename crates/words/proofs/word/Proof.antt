@@ -16,11 +16,12 @@ use Rattle.rules.specs.Refusals.{Check, refusal, ofPlan, badLength, plain, acce
 use Rattle.plan.specs.Good.{Good}
 use Rattle.plan.proofs.Checks.{passed-good}
 use Rattle.plan.proofs.Sound.{good-sound}
+use Rattle.plan.proofs.Answers.{call-refused, call-own, call-accepted}
 use Rattle.words.specs.declared.WordAnswer.{WordAnswer}
 use Rattle.words.specs.Words.{word}
 use Rattle.words.specs.Answers.{wordAnswer}
 use Rattle.words.proofs.OfPlan.{word-small}
-use Rattle.words.proofs.Answered.{call-refused, call-own, call-accepted, word-at}
+use Rattle.words.proofs.Answered.{word-at}
 use Rattle.words.proofs.word.Statement.{statement}
 use Rattle.words.proofs.word.Tie as tie
 

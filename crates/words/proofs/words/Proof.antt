@@ -6,9 +6,9 @@ use lib.IntN.{ℤ}
 use Rattle.rules.specs.declared.Refusal.{Refusal}
 use Rattle.rules.specs.Plan.{Plan, plan, everyRun}
 use Rattle.plan.proofs.Checks.{passed-good}
+use Rattle.plan.proofs.Answers.{call-refused, call-accepted}
 use Rattle.words.specs.declared.WordsAnswer.{WordsAnswer}
 use Rattle.words.specs.Answers.{zeros, wordList, wordsAnswer}
-use Rattle.words.proofs.Answered.{call-refused, call-accepted}
 use Rattle.words.proofs.words.Statement.{statement}
 use Rattle.words.proofs.words.Tie as tie
 

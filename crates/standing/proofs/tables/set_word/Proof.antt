@@ -14,7 +14,6 @@ use Rattle.rules.specs.Plan.{Plan, columns, level, entry}
 use Rattle.rules.specs.Refusals.{Check, refusal, badSet, isSet, plain, accepted}
 use Rattle.sets.proofs.Rising.{set-part}
 use Rattle.words.specs.Words.{wordOf}
-use Rattle.words.proofs.Answered.{answer-refused, answer-accepted}
 use Rattle.projections.specs.Projections.{setWordAnswer}
 use Rattle.projections.proofs.Products.{part-projection}
 use Rattle.standing.specs.declared.HeldSetWord.{HeldSetWord}
@@ -32,6 +31,7 @@ use Rattle.standing.proofs.tables.check_size.Reads as check-size-reads
 use Rattle.standing.proofs.tables.set_word_of.Reads as set-word-of-reads
 use Rattle.rules.proofs.Refusal.plain.Reads as plain-reads
 use Rattle.sets.proofs.inner.is_set.Reads as is-set-reads
+use Rattle.plan.proofs.Answers.{answer-refused, answer-accepted}
 
 -- src/tables.rt:62:9
 -- the plan, the size, the set, its check and its word

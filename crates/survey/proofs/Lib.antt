@@ -1,0 +1,3 @@
+pub mod TableWalks
+pub mod SurveyProperties
+pub mod Figures
