@@ -19,8 +19,8 @@
 #include <stddef.h>
 #include <stdint.h>
 
-#define CRUMB_VERSION "0.7.0"
-#define CRUMB_VERSION_NUMBER 700 /* 10000 * major + 100 * minor + patch */
+#define CRUMB_VERSION "0.8.0"
+#define CRUMB_VERSION_NUMBER 800 /* 10000 * major + 100 * minor + patch */
 
 /* The refusals: number, name, what is wrong, what to do. A call that is
  * refused answers the number negated. Number 12 is not used. The checks stand

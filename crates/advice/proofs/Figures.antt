@@ -2,6 +2,7 @@
 use mathlib.Core.Path.{_≡_, refl}
 use mathlib.Core.List.{[], _∷_}
 use Rattle.exact.specs.Fractions.{smallerFraction}
+use Rattle.best.specs.Best.{best}
 use Rattle.rules.specs.Plan.{Plan, plan, everyRun}
 use Rattle.words.specs.Words.{score, wordOf, word}
 use Rattle.compare.specs.Compare.{A, pattern, comparePatterns}
@@ -12,5 +13,5 @@ abbrev listed : Plan
 listed = plan (2 ∷ 3 ∷ []) (0 ∷ 0 ∷ 0 ∷ 1 ∷ 1 ∷ 2 ∷ [])
 
 pub listing-advice : advice listed (everyRun listed) ≡ 0
-unfolding smallerFraction score wordOf word A pattern comparePatterns advice
+unfolding smallerFraction score wordOf word A pattern comparePatterns best advice
 listing-advice = refl

@@ -55,20 +55,24 @@ scaled a b d h = smaller-ind a b (λ v. smaller (a * d) (b * d) ≡ v)
     (λ l. smaller-gt (a * d) (b * d) (mul-lt-mul-of-pos-right l h))
     (λ e. smaller-eq (a * d) (b * d) (ap (λ n. n * d) e))
 
-twice : (w r n e : ℤ) → w -ℤ pos 2 *ℤ r +ℤ e ≡ (w -ℤ pos 2 *ℤ (r +ℤ n) +ℤ e) +ℤ pos 2 *ℤ n
+twice : (w r n e : ℤ) → w -ℤ pos 2 *ℤ r -ℤ e ≡ (w -ℤ pos 2 *ℤ (r +ℤ n) -ℤ e) +ℤ pos 2 *ℤ n
 twice w r n e = simp ring
 
--- words a and b that are left of w by the row sums r and s
+-- a row sum r without its own pair, which adds e
+own-pair : (w r e : ℤ) → w -ℤ pos 2 *ℤ r +ℤ e ≡ w -ℤ pos 2 *ℤ (r -ℤ e) -ℤ e
+own-pair w r e = simp ring
+
+-- words a and b that are left of w by the row sums r and s over the other runs
 module _ (w e : ℤ) where
   abbrev Left : ℤ → ℕ → Type 0
-  Left r a = pos a ≡ w -ℤ pos 2 *ℤ r +ℤ e
+  Left r a = pos a ≡ w -ℤ pos 2 *ℤ r -ℤ e
 
   -- the smaller row sum leaves the larger word
   grows : (r s : ℤ) (a b : ℕ) → Left r a → Left s b → r <ℤ s → b < a
   grows r s a b p q l =
       let (n, d) = less-diff r s l in
       let k : pos a ≡ pos (b + 2 * suc n) =
-      p ∙ twice w r (pos (suc n)) e ∙ ap (λ z. z +ℤ pos 2 *ℤ pos (suc n)) (ap (λ z. w -ℤ pos 2 *ℤ z +ℤ e) d ∙ sym q)
+      p ∙ twice w r (pos (suc n)) e ∙ ap (λ z. z +ℤ pos 2 *ℤ pos (suc n)) (ap (λ z. w -ℤ pos 2 *ℤ z -ℤ e) d ∙ sym q)
       in
       let f : a ≡ b + 2 * suc n = ap natAbs k in
       omega arith
@@ -77,7 +81,7 @@ module _ (w e : ℤ) where
   by-row r s a b p q = larger-ind r s (λ v. smaller a b ≡ v)
       (λ l. smaller-lt a b (grows s r b a q p l))
       (λ l. smaller-gt a b (grows r s a b p q l))
-      (λ d. smaller-eq a b (ap natAbs (p ∙ ap (λ z. w -ℤ pos 2 *ℤ z +ℤ e) d ∙ sym q)))
+      (λ d. smaller-eq a b (ap natAbs (p ∙ ap (λ z. w -ℤ pos 2 *ℤ z -ℤ e) d ∙ sym q)))
 
 abs-same : {z : ℤ} → pos 0 ≤ℤ z → pos (natAbs z) ≡ z
 abs-same h = let (n, e) = is-pos h in subst (λ z. pos (natAbs z) ≡ z) e refl
@@ -85,17 +89,13 @@ abs-same h = let (n, e) = is-pos h in subst (λ z. pos (natAbs z) ≡ z) e refl
 -- ---- the losses of a plan
 
 module _ (p : Plan) (rs : List ℕ) where
-  -- the row sum of run f for length j
+  -- the row sum of run f for length j, over the other runs
   abbrev pub rowOf : ℕ → ℕ → ℤ
-  rowOf f j = rowSum (level p) (entry p) rs (everyColumn p) j f
+  rowOf f j = rowSum (level p) (entry p) rs (everyColumn p) j f -ℤ diagonal (level p) (everyColumn p) j
 
   -- the row sums of run f, for the lengths 1 to m
   abbrev pub rowTo : ℕ → List ℤ
   rowTo f = map (rowOf f) (from 1 (columns p))
-
-  -- by the row sums of f and g
-  abbrev pub rowOrder : ℕ → ℕ → Verdict
-  rowOrder f g = largerRow (rowTo f) (rowTo g)
 
   -- A_j of the runs but f
   abbrev shareOf : ℕ → ℕ → Fraction
@@ -118,7 +118,7 @@ module _ (p : Plan) (rs : List ℕ) (S : Sound p rs) (r : Rising rs) where
 
   word-left : (f : ℕ) → List·Memᴰ f rs → (j : ℕ) →
       pos (natAbs (word (level p) (entry p) (without f rs) (everyColumn p) j))
-      ≡ word (level p) (entry p) rs (everyColumn p) j -ℤ pos 2 *ℤ rowOf p rs f j +ℤ diagonal (level p) (everyColumn p) j
+      ≡ word (level p) (entry p) rs (everyColumn p) j -ℤ pos 2 *ℤ rowOf p rs f j -ℤ diagonal (level p) (everyColumn p) j
   word-left f m j =
       let P = parted f rs r m in
       let cols = everyColumn p in
@@ -126,6 +126,7 @@ module _ (p : Plan) (rs : List ℕ) (S : Sound p rs) (r : Rising rs) where
       ∙ ap (λ l. word (level p) (entry p) l cols j) (P .left)
       ∙ strike (level p) (entry p) (P .front) f (P .back) cols j
       ∙ ap (λ l. word (level p) (entry p) l cols j -ℤ pos 2 *ℤ rowSum (level p) (entry p) l cols j f +ℤ diagonal (level p) cols j) (sym (P .whole))
+      ∙ own-pair (word (level p) (entry p) rs cols j) (rowSum (level p) (entry p) rs cols j f) (diagonal (level p) cols j)
 
   module _ (two : 2 ≤ length rs) (f g : ℕ) (mf : List·Memᴰ f rs) (mg : List·Memᴰ g rs) where
     compare-length : (j : ℕ) → smallerFraction (shareOf p rs f j) (shareOf p rs g j) ≡ larger (rowOf p rs f j) (rowOf p rs g j)
@@ -145,7 +146,6 @@ module _ (p : Plan) (rs : List ℕ) (S : Sound p rs) (r : Rising rs) where
     compare-lengths [] = refl
     compare-lengths (j ∷ js) = ap₂ then (compare-length j) (compare-lengths js)
 
-    pub loss-row : comparePatterns (patternOf p (without f rs)) (patternOf p (without g rs))
-        ≡ rowOrder p rs f g
+    pub loss-row : comparePatterns (patternOf p (without f rs)) (patternOf p (without g rs)) ≡ largerRow (rowTo p rs f) (rowTo p rs g)
     unfolding pattern
     loss-row = rw (length-from 0 (columns p)) (compare-lengths (from 1 (columns p)))

@@ -1,8 +1,8 @@
-pub mod Choice
 pub mod Without
 pub mod Largest
 pub mod Optimal
 pub mod Walks
-pub mod Best
+pub mod RowSums
 pub mod Turns
 pub mod Figures
+pub mod Enough

@@ -10,6 +10,7 @@ use lib.ListN.{length, take, set, replicate, length-append}
 use lib.Seq.{take-at}
 use Rattle.exact.specs.Lists.{filledTo, into}
 use Rattle.exact.proofs.Rooms.{into-blank}
+use Rattle.best.proofs.Best.{best-mem}
 use Rattle.rules.specs.Plan.{Plan}
 use Rattle.advice.specs.Advice.{without, advice, inTurn}
 use Rattle.advice.specs.Given.{Standing}
@@ -41,11 +42,11 @@ module _ (p : Plan) where
   -- the runs but the one advised stand, one fewer
   module _ (rs : List ℕ) (S : Standing p rs) (two : 2 ≤ length rs) where
     one-fewer : length rs ≡ suc (length (without (advice p rs) rs))
-    one-fewer = without-length (advice p rs) rs (S .rising) (advice-chosen p rs (S .rising) two .there)
+    one-fewer = without-length (advice p rs) rs (S .rising) (best-mem (advice-chosen p rs (S .rising) two))
 
     others-stand : Standing p (without (advice p rs) rs)
     others-stand = record {
-      sound = sound-without p rs (S .sound) (S .rising) (advice p rs) (advice-chosen p rs (S .rising) two .there);
+      sound = sound-without p rs (S .sound) (S .rising) (advice p rs) (best-mem (advice-chosen p rs (S .rising) two));
       rising = keep-rising (λ g. not (eqb g (advice p rs))) rs (S .rising);
     }
 

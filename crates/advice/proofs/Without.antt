@@ -1,12 +1,12 @@
 -- The runs but one: rising runs stay rising, lose that run and no other.
 use mathlib.Core.Path.{_≡_, refl, sym, _∙_, ap}
-use mathlib.Core.Bool.{Bool, true, false, not, cond}
+use mathlib.Core.Bool.{Bool, true, false, cond}
 use mathlib.Core.Logic.{_⊎_, inl, inr}
 use mathlib.Core.List.{List, [], _∷_, _++_, List·Memᴰ, List·Memᴰ·head, List·Memᴰ·tail, List·Memᴰ·not-nil, List·Memᴰ·cases-cons}
-use Prim.Native.Nat.{ℕ, suc, _≤_, _<_}
+use Prim.Native.Nat.{ℕ, zero, suc, _<_}
 use native.Mathlib.Omega.{arith}
 use lib.Dec.{eqb, eqb→eq, eqb-refl}
-use lib.ListN.{length, length-append}
+use lib.ListN.{length, getD, take, length-append}
 use Rattle.exact.specs.Lists.{keep}
 use Rattle.exact.proofs.Tests.{is-true, is-false}
 use Rattle.exact.proofs.Members.{keep-mem}
@@ -59,19 +59,6 @@ parted f (g ∷ rs) r m = go (List·Memᴰ·cases-cons m) (parted f rs (r .1))
           left = rw (is-false (eqb g f) (λ t. let e = eqb→eq g f t in let l = r .0 f n in omega arith), P .left);
         }
 
--- of two or more runs one is left
-pub without-some : (f : ℕ) (rs : List ℕ) → Rising rs → 2 ≤ length rs → 0 < length (without f rs)
-without-some f [] r h = absurd (omega arith)
-without-some f (a ∷ []) r h = absurd (omega arith)
-without-some f (a ∷ b ∷ rs) r h = go (eqb a f) refl (eqb b f) refl
-  where
-    go : (s : Bool) → eqb a f ≡ s → (t : Bool) → eqb b f ≡ t →
-        0 < length (cond (not s) (a ∷ cond (not t) (b ∷ without f rs) (without f rs)) (cond (not t) (b ∷ without f rs) (without f rs)))
-    go false d t e = omega arith
-    go true d false e = omega arith
-    go true d true e =
-        let x = eqb→eq a f (rw d tt) in let y = eqb→eq b f (rw e tt) in let l = r .0 b (List·Memᴰ·head refl) in absurd (omega arith)
-
 -- one run fewer
 pub without-length : (f : ℕ) (rs : List ℕ) → Rising rs → List·Memᴰ f rs → length rs ≡ suc (length (without f rs))
 without-length f rs r m =
@@ -79,3 +66,11 @@ without-length f rs r m =
     let a = ap length (P .whole) ∙ length-append (P .front) (f ∷ P .back) in
     let b = ap length (P .left) ∙ length-append (P .front) (P .back) in
     omega arith
+
+-- of rising runs the lower numbers stand before
+pub rising-before : (rs : List ℕ) (k a g : ℕ) → Rising rs → k < length rs → getD rs k a ≡ a → List·Memᴰ g rs → g < a → List·Memᴰ g (take k rs)
+rising-before [] k a g r h e m l = absurd (omega arith)
+rising-before (f ∷ fs) zero a g r h e (List·Memᴰ·head d) l = absurd (omega arith)
+rising-before (f ∷ fs) zero a g r h e (List·Memᴰ·tail m) l = absurd (omega (arith, r .0 g m))
+rising-before (f ∷ fs) (suc k) a g r h e (List·Memᴰ·head d) l = List·Memᴰ·head d
+rising-before (f ∷ fs) (suc k) a g r h e (List·Memᴰ·tail m) l = List·Memᴰ·tail (rising-before fs k a g (r .1) (omega arith) e m l)

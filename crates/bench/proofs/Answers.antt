@@ -10,7 +10,7 @@ use lib.ListN.{length}
 use Rattle.exact.proofs.Numbers.{length-from}
 use Rattle.rules.specs.declared.Refusal.{Refusal}
 use Rattle.rules.specs.Plan.{Plan, columns, level, entry, everyRun, everyColumn}
-use Rattle.rules.specs.Refusals.{Check, refusal, refuses, planChecks, ofPlan, badRoom, badLength, badSize, badSet}
+use Rattle.rules.specs.Refusals.{Check, refusal, refuses, largestNumber, planChecks, ofPlan, badRoom, badLength, badSize, badSet}
 use Rattle.rules.proofs.Order.{known, number-most, passed-none, none-passed}
 use Rattle.plan.proofs.Checks.{passed-good}
 use Rattle.words.specs.Answers.{wordAnswer}
@@ -27,7 +27,8 @@ use Rattle.held.specs.Held.{IsHeld, planIn, openAnswer, strikes, reinstates}
 use Rattle.held.specs.History.{isAccepted}
 use Rattle.held.proofs.History.{call-held, undo}
 use Rattle.standing.specs.declared.HeldWord.{HeldWord}
-use Rattle.standing.specs.Answers.{ofStanding, heldWord}
+use Rattle.held.specs.Held.{ofStanding}
+use Rattle.standing.specs.Answers.{heldWord}
 use Rattle.bench.specs.Exports.{round, rounds}
 
 -- no refusal: no check of the call fails
@@ -45,18 +46,18 @@ pub rounds-held : {h : Held} → IsHeld h → (k : ℕ) → IsHeld (rounds h k)
 rounds-held H zero = H
 rounds-held H (suc k) = call-held (call-held (rounds-held H k) (strikes 0)) (reinstates 0)
 
-pub open-number : (p : Plan) {a : HeldAnswer} → a ≡ openAnswer p → a .refused .number ≤ 14
+pub open-number : (p : Plan) {a : HeldAnswer} → a ≡ openAnswer p → a .refused .number ≤ largestNumber
 unfolding openAnswer
 open-number p e = rw e (number-most (planChecks p))
 
-pub word-number : (h : Held) (j : ℕ) {a : HeldWord} → a ≡ heldWord h j → a .answer .refused .number ≤ 14
+pub word-number : (h : Held) (j : ℕ) {a : HeldWord} → a ≡ heldWord h j → a .answer .refused .number ≤ largestNumber
 unfolding heldWord wordAnswer
 word-number h j e = rw e (number-most (ofStanding h (badLength (columns (planIn h)) j ∷ [])))
 
 -- ---- a table
 
 module _ (p : Plan) (f : ℕ) (ls : List Line) (R : Rooms) {a : TableAnswer} (e : a ≡ tableAnswer (ofPlan p) (columns p) f ls R) where
-  pub table-number : a .refused .number ≤ 14
+  pub table-number : a .refused .number ≤ largestNumber
   unfolding tableAnswer
   table-number = rw e (number-most (tableRefusal (ofPlan p) (columns p) f ls R))
 
@@ -76,7 +77,7 @@ module _ (p : Plan) (f : ℕ) (ls : List Line) (R : Rooms) {a : TableAnswer} (e 
 -- ---- generalized resolution
 
 module _ (p : Plan) {a : GeneralizedAnswer} (e : a ≡ generalizedAnswer p (everyRun p) (ofPlan p)) where
-  pub ratio-number : a .refused .number ≤ 14
+  pub ratio-number : a .refused .number ≤ largestNumber
   unfolding generalizedAnswer
   ratio-number = rw e (number-most (ofPlan p (resolutionChecks p (everyRun p))))
 
@@ -104,9 +105,9 @@ module _ (p : Plan) {a : GeneralizedAnswer} (e : a ≡ generalizedAnswer p (ever
 
 -- ---- words of sets of columns
 
-pub set-number : (p : Plan) (f : ℕ) (I : List ℕ) {a : SetWordAnswer} → a ≡ setWordAnswer p (everyRun p) (ofPlan p) f I → a .refused .number ≤ 14
+pub set-number : (p : Plan) (f : ℕ) (I : List ℕ) {a : SetWordAnswer} → a ≡ setWordAnswer p (everyRun p) (ofPlan p) f I → a .refused .number ≤ largestNumber
 unfolding setWordAnswer
 set-number p f I e = rw e (number-most (ofPlan p (badSize (columns p) f ∷ badSet (columns p) f I ∷ [])))
 
-pub size-number : (p : Plan) (f : ℕ) {r : Refusal} → r ≡ refusal (ofPlan p (badSize (columns p) f ∷ [])) → r .number ≤ 14
+pub size-number : (p : Plan) (f : ℕ) {r : Refusal} → r ≡ refusal (ofPlan p (badSize (columns p) f ∷ [])) → r .number ≤ largestNumber
 size-number p f e = rw e (number-most (ofPlan p (badSize (columns p) f ∷ [])))

@@ -2,10 +2,9 @@
 use mathlib.Core.Bool.{Bool}
 use mathlib.Core.List.{List, [], _∷_}
 use Prim.Native.Nat.{ℕ, zero, suc}
-use lib.IntN.{ℤ, pos, negℤ}
+use lib.IntN.{ℤ, pos}
 use Rattle.rules.specs.Plan.{Plan, columns, level, entry, everyColumn, everyRun}
-use Rattle.rules.specs.Refusals.{refusal, unless, ofPlan, badSize}
-use Rattle.rules.specs.declared.Refusal.{Refusal}
+use Rattle.rules.specs.Refusals.{refusal, numberOr, ofPlan, badSize}
 use Rattle.words.specs.Words.{word}
 use Rattle.projections.specs.Projections.{setWordAnswer}
 use Rattle.frequencies.specs.Frequencies.{Rooms, tableIn, tableAnswer}
@@ -13,9 +12,6 @@ use Rattle.resolution.specs.Resolution.{generalizedAnswer}
 use Rattle.held.specs.declared.Held.{Held}
 use Rattle.held.specs.Held.{openAnswer, strikes, reinstates, callAnswer}
 use Rattle.standing.specs.Answers.{heldWord}
-
-abbrev pub numberOf : Refusal → ℤ → ℤ
-numberOf r value = unless r (negℤ (pos (r .number))) value
 
 -- a round: run 0 is struck and reinstated
 abbrev pub round : Held → Held
@@ -30,24 +26,24 @@ unfoldable pub strikesNumber : Plan → ℕ → ℕ → ℤ
 strikesNumber p j k =
     let opened = openAnswer p in
     let word = heldWord (callAnswer (rounds (opened .held) k) (strikes 0) .held) j .answer in
-    numberOf (opened .refused) (numberOf (word .refused) (word .word))
+    numberOr (opened .refused) (numberOr (word .refused) (word .word))
 
 -- the number of lines of the table for size f
 unfoldable pub tableNumber : Bool → Plan → ℕ → Rooms → ℤ
 tableNumber relative p f rooms =
     let answer = tableAnswer (ofPlan p) (columns p) f (tableIn relative p (everyRun p) f) rooms in
-    numberOf (answer .refused) (pos (answer .lines))
+    numberOr (answer .refused) (pos (answer .lines))
 
 -- generalized resolution in thousandths
 unfoldable pub ratioNumber : Plan → ℤ
 ratioNumber p =
-    let answer = generalizedAnswer p (everyRun p) (ofPlan p) in numberOf (answer .refused) (pos (answer .thousandths))
+    let answer = generalizedAnswer p (everyRun p) (ofPlan p) in numberOr (answer .refused) (pos (answer .thousandths))
 
 -- W(I) of a set of f columns
 unfoldable pub setWordNumber : Plan → ℕ → List ℕ → ℤ
 setWordNumber p f I =
-    let answer = setWordAnswer p (everyRun p) (ofPlan p) f I in numberOf (answer .refused) (answer .word)
+    let answer = setWordAnswer p (everyRun p) (ofPlan p) f I in numberOr (answer .refused) (answer .word)
 
 -- W(I) of all sets of f columns, added up
 unfoldable pub setWordsNumber : Plan → ℕ → ℤ
-setWordsNumber p f = numberOf (refusal (ofPlan p (badSize (columns p) f ∷ []))) (word (level p) (entry p) (everyRun p) (everyColumn p) f)
+setWordsNumber p f = numberOr (refusal (ofPlan p (badSize (columns p) f ∷ []))) (word (level p) (entry p) (everyRun p) (everyColumn p) f)

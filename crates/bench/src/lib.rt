@@ -3,10 +3,9 @@
 use exact::signed;
 use held::Held;
 use projections::Engine;
-use projections::inner::check_size;
 use projections::inner::word_by_pairs;
-use rules::Refusal;
 use sets::inner::binomial;
+use sets::inner::check_size;
 use sets::inner::set_at;
 ghost use mathlib.Core.Path.{_≡_};
 ghost use mathlib.Core.List.{[]};
@@ -20,18 +19,7 @@ ghost use Rattle.counts.specs.Parts.{counted};
 ghost use Rattle.projections.specs.Given.{Projection, SizeOf};
 ghost use Rattle.frequencies.specs.Frequencies.{rooms, tableIn, tableRooms};
 ghost use Rattle.held.specs.Held.{IsHeld};
-ghost use Rattle.bench.specs.Exports.{numberOf, rounds, strikesNumber, tableNumber, ratioNumber, setWordNumber, setWordsNumber};
-
-fn number_of(refused: Refusal, value: i64) -> i64
-    requires { ⌜ refused .number ≤ 14 ⌝ }
-    ensures { λ r. ⌜ r ≡ numberOf refused value ⌝ }
-{
-    let number = refused.number;
-    if number != 0 {
-        return signed::sub(0, signed::of_u64(number));
-    }
-    value
-}
+ghost use Rattle.bench.specs.Exports.{rounds, strikesNumber, tableNumber, ratioNumber, setWordNumber, setWordsNumber};
 
 // Run 0 struck and reinstated, so many times.
 fn rounds(held: Held, times: u64) -> Held
@@ -60,7 +48,9 @@ pub extern "C" fn bench_strikes(levels: &[u8], table: &[u8], length: u64, times:
     let left = struck.held;
     let asked = standing::questions::word(left, length as usize);
     let answer = asked.answer;
-    number_of(opened.refused, number_of(answer.refused, answer.word))
+    opened
+        .refused
+        .number_or(answer.refused.number_or(answer.word))
 }
 
 // The table for size f, put into the lent rooms: the number of its lines.
@@ -83,7 +73,7 @@ pub extern "C" fn bench_table(
         tableRooms (ofPlan p) (columns p) f (tableIn relative p (everyRun p) f) R) ⌝ }
 {
     let answer = frequencies::frequencies(levels, table, f as usize, relative, nums, dens, counts);
-    number_of(answer.refused, signed::of_size(answer.lines))
+    answer.refused.number_or(signed::of_size(answer.lines))
 }
 
 // Generalized resolution in thousandths.
@@ -92,7 +82,7 @@ pub extern "C" fn bench_ratio(levels: &[u8], table: &[u8]) -> i64
     ensures { λ r. ⌜ r ≡ ratioNumber (plan (now (levels .entry)) (now (table .entry))) ⌝ }
 {
     let answer = resolution::generalized(levels, table);
-    number_of(answer.refused, signed::of_u64(answer.thousandths))
+    answer.refused.number_or(signed::of_u64(answer.thousandths))
 }
 
 // W(I) of a set of f columns, by the engine that is named.
@@ -112,7 +102,7 @@ pub extern "C" fn bench_set_word(
         Engine::Counts
     };
     let answer = projections::set_word_by(levels, table, f as usize, columns, engine);
-    number_of(answer.refused, answer.word)
+    answer.refused.number_or(answer.word)
 }
 
 // W(I) of the runs, by the engine that is named.
@@ -160,11 +150,12 @@ pub extern "C" fn bench_set_words(levels: &[u8], table: &[u8], f: u64, by_pairs:
     ensures { λ r. ⌜ r ≡ setWordsNumber (plan (now (levels .entry)) (now (table .entry))) f ⌝ }
 {
     let size = f as usize;
-    let refused = check_size(levels, table, size);
+    let checked = plan::inner::checked_runs(levels, table);
+    let refused = checked.refused.or_else(check_size(levels.len(), size));
     if refused.number != 0 {
-        return number_of(refused, 0);
+        return refused.number_or(0);
     }
-    let n = table.len() / levels.len();
-    let numbers = plan::inner::every_run(n);
-    words_added(levels, table, &numbers[..n], size, by_pairs)
+    let runs = checked.runs;
+    let count = checked.count;
+    words_added(levels, table, &runs[..count], size, by_pairs)
 }

@@ -1,5 +1,5 @@
 pub mod Lawful
 pub mod Turns
 pub mod OfPlan
-pub mod Answered
+pub mod Sides
 pub mod Figures

@@ -10,9 +10,8 @@ use lib.Signed.{_≤ℤ_}
 use Rattle.exact.specs.Lists.{from}
 use Rattle.exact.proofs.Numbers.{length-from, from-add}
 use Rattle.exact.proofs.Rooms.{map-++}
-use Rattle.rules.specs.Plan.{Plan, columns, runs, level, entry, everyColumn, everyRun, mostColumns}
-use Rattle.plan.specs.Good.{Good, Sound}
-use Rattle.plan.proofs.Sound.{good-sound}
+use Rattle.rules.specs.Plan.{Plan, columns, level, entry, everyColumn, mostColumns}
+use Rattle.plan.specs.Good.{Sound}
 use Rattle.words.specs.Words.{word}
 use Rattle.words.specs.Answers.{wordList}
 use Rattle.words.proofs.OfPlan.{word-not-negative, word-none}
@@ -59,15 +58,3 @@ module _ (p : Plan) (rs : List ℕ) (S : Sound p rs) where
       not-negative = subst (λ z. pos 0 ≤ℤ z) (sym (word-at j)) (word-not-negative p rs S (getD (from 1 mostColumns) j 25));
     };
   }
-
--- of all runs of an accepted plan
-module _ (p : Plan) (G : Good p) where
-  pub whole-pattern : patternOf p (everyRun p) ≡ map (over (runs p)) (take (columns p) (wordList p (everyRun p)))
-  whole-pattern =
-      pattern-words p (everyRun p) (good-sound p G)
-      ∙ ap (λ n. map (over n) (take (columns p) (wordList p (everyRun p)))) (length-from 0 (runs p))
-
-  pub whole-words : WordsOf (runs p) (wordList p (everyRun p))
-  whole-words =
-      subst (λ n. WordsOf n (wordList p (everyRun p))) (length-from 0 (runs p))
-      (words-given p (everyRun p) (good-sound p G) (rw (length-from 0 (runs p)) (G .runs-low)))

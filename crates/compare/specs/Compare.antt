@@ -12,6 +12,7 @@ use Rattle.exact.specs.declared.fractions.Verdict.{Verdict}
 use Rattle.exact.specs.declared.fractions.Verdict.the-variants.{Equal}
 use Rattle.rules.specs.Plan.{Plan, columns, level, entry, everyColumn, everyRun}
 use Rattle.rules.specs.Refusals.{Check, refusal, refuses, ofPlan}
+use Rattle.rules.specs.declared.Refusal.{Refusal}
 use Rattle.words.specs.Words.{word}
 use Rattle.compare.specs.declared.Comparison.{Comparison}
 use Rattle.compare.specs.declared.Comparison.the-variants.{Compared, NotComparable, Refused}
@@ -38,21 +39,18 @@ comparePatterns (x ∷ xs) (y ∷ ys) = then (smallerFraction x y) (comparePatte
 abbrev pub patternOf : Plan → List ℕ → List Fraction
 patternOf p rs = pattern (level p) (entry p) rs (everyColumn p)
 
--- two plans whole
-abbrev pub compareWhole : Plan → Plan → Verdict
-compareWhole p q = comparePatterns (patternOf p (everyRun p)) (patternOf q (everyRun q))
+-- the pattern xs of a plan of m columns against ys of one of k columns
+abbrev pub verdictOf : ℕ → List Fraction → ℕ → List Fraction → Comparison
+verdictOf m xs k ys = cond (eqb m k) (Compared (comparePatterns xs ys)) NotComparable
 
--- the runs rs of plan p against the runs ss of plan q, both checked
-abbrev pub verdictOf : Plan → List ℕ → Plan → List ℕ → Comparison
-verdictOf p rs q ss =
-    cond (eqb (columns p) (columns q)) (Compared (comparePatterns (patternOf p rs) (patternOf q ss))) NotComparable
+-- the first refusal, then the second, and beside them the verdict; a refusal says which plan it is of, 1 or 2
+abbrev pub comparisonBeside : Refusal → Refusal → Comparison → Comparison
+comparisonBeside r s verdict = cond (refuses r) (Refused 1 r) (cond (refuses s) (Refused 2 s) verdict)
 
--- the first is checked entirely, then the second; a refusal says which, 1 or 2
+-- the runs rs of plan p against the runs ss of plan q; the first plan is checked entirely, then the second
 unfoldable pub compareAnswer : (List Check → List Check) → Plan → List ℕ → (List Check → List Check) → Plan → List ℕ → Comparison
 compareAnswer start p rs startOther q ss =
-    let r = refusal (start []) in
-    let s = refusal (startOther []) in
-    cond (refuses r) (Refused 1 r) (cond (refuses s) (Refused 2 s) (verdictOf p rs q ss))
+    comparisonBeside (refusal (start [])) (refusal (startOther [])) (verdictOf (columns p) (patternOf p rs) (columns q) (patternOf q ss))
 
 -- two plans, given as levels and table
 abbrev pub comparePlans : Plan → Plan → Comparison

@@ -1,17 +1,18 @@
 // For our own crates: the comparison of scaled words, and of some runs of two plans.
+use crate::Comparison;
 use exact::fractions;
 use exact::fractions::Fraction;
 use exact::fractions::Verdict;
 use exact::signed;
+use rules::Refusal;
 ghost use mathlib.Core.Path.{_≡_};
 ghost use mathlib.Core.List.{map};
 ghost use Prim.Native.Nat.{_≤_};
-ghost use lib.ListN.{length, take};
+ghost use lib.ListN.{take};
 ghost use Rattle.exact.specs.Fractions.{smallerFraction};
 ghost use Rattle.rules.specs.Plan.{plan, mostColumns};
-ghost use Rattle.plan.specs.Good.{Good};
-ghost use Rattle.compare.specs.Compare.{over, comparePatterns, compareWhole};
-ghost use Rattle.compare.specs.Given.{WordOf, WordsOf};
+ghost use Rattle.compare.specs.Compare.{over, comparePatterns};
+ghost use Rattle.compare.specs.Given.{WordOf, WordsOf, Sided, compareSides, wholeSide};
 
 // The word of n runs from their scaled word.
 pub(crate) fn over(word: i64, n: usize) -> Fraction
@@ -46,21 +47,48 @@ pub fn compare_words(a: &[i64; 24], n: usize, b: &[i64; 24], k: usize, m: usize)
     Verdict::Equal
 }
 
-// Two accepted plans with equal m.
-pub(crate) fn compare_accepted(
-    levels1: &[u8],
-    table1: &[u8],
-    levels2: &[u8],
-    table2: &[u8],
-) -> Verdict
-    requires first { ⌜ Good (plan (now levels1) (now table1)) ⌝ }
-    requires second { ⌜ Good (plan (now levels2) (now table2)) ⌝ }
-    requires wide { ⌜ length (now levels1) ≡ length (now levels2) ⌝ }
-    ensures { λ r. ⌜ r ≡ compareWhole (plan (now (levels1 .entry)) (now (table1 .entry))) (plan (now (levels2 .entry)) (now (table2 .entry))) ⌝ }
+// What the comparison takes of a plan: the refusal, the scaled words of its runs, and the numbers of its runs and columns.
+pub struct Side {
+    pub refused: Refusal,
+    pub words: [i64; 24],
+    pub runs: usize,
+    pub columns: usize,
+}
+
+// One side against the other, behind the refusals of both.
+pub fn compare_answer(first: Side, second: Side) -> Comparison
+    requires { ⌜ Sided first × Sided second ⌝ }
+    ensures { λ r. ⌜ r ≡ compareSides first second ⌝ }
 {
-    let a = words::inner::words_of_plan(levels1, table1);
-    let b = words::inner::words_of_plan(levels2, table2);
-    let n = table1.len() / levels1.len();
-    let k = table2.len() / levels2.len();
-    compare_words(&a, n, &b, k, levels1.len())
+    let refused1 = first.refused;
+    if refused1.number != 0 {
+        return Comparison::Refused(1, refused1);
+    }
+    let refused2 = second.refused;
+    if refused2.number != 0 {
+        return Comparison::Refused(2, refused2);
+    }
+    let m = first.columns;
+    if m != second.columns {
+        return Comparison::NotComparable;
+    }
+    let a = first.words;
+    let b = second.words;
+    Comparison::Compared(compare_words(&a, first.runs, &b, second.runs, m))
+}
+
+// All runs of a plan, behind its checks.
+pub(crate) fn side_of(levels: &[u8], table: &[u8]) -> Side
+    ensures { λ r. ⌜ r ≡ wholeSide (plan (now (levels .entry)) (now (table .entry))) ⌝ }
+{
+    let checked = plan::inner::checked_runs(levels, table);
+    let answer = words::words(levels, table);
+    let refused = checked.refused;
+    let words = answer.words;
+    Side {
+        refused,
+        words,
+        runs: checked.count,
+        columns: levels.len(),
+    }
 }

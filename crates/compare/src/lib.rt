@@ -18,16 +18,8 @@ pub enum Comparison {
 pub fn compare(levels1: &[u8], table1: &[u8], levels2: &[u8], table2: &[u8]) -> Comparison
     ensures { λ r. ⌜ r ≡ comparePlans (plan (now (levels1 .entry)) (now (table1 .entry))) (plan (now (levels2 .entry)) (now (table2 .entry))) ⌝ }
 {
-    let refused1 = plan::check(levels1, table1);
-    if refused1.number != 0 {
-        return Comparison::Refused(1, refused1);
-    }
-    let refused2 = plan::check(levels2, table2);
-    if refused2.number != 0 {
-        return Comparison::Refused(2, refused2);
-    }
-    if levels1.len() != levels2.len() {
-        return Comparison::NotComparable;
-    }
-    Comparison::Compared(inner::compare_accepted(levels1, table1, levels2, table2))
+    inner::compare_answer(
+        inner::side_of(levels1, table1),
+        inner::side_of(levels2, table2),
+    )
 }

@@ -17,7 +17,7 @@ use Rattle.exact.proofs.Members.{getD-mem}
 use Rattle.exact.proofs.Sums.{sum-cong, sum-cong-in, sum-+, sum-*, sum-map}
 use Rattle.rules.specs.Plan.{Plan, level, entry, highestLevel}
 use Rattle.plan.specs.Good.{Sound}
-use Rattle.words.specs.Words.{score, scoreAt, wordOf}
+use Rattle.words.specs.Words.{scoreAt, wordOf}
 use Rattle.words.proofs.Squares.{agree, agree-same, score-agree}
 use Rattle.counts.specs.Numbered.{productOf, Columns}
 use Rattle.counts.specs.Parts.{mostNumbers, squaresOf, sign, longer, overParts, Digits, Weighed, turned}

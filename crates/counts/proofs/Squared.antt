@@ -11,7 +11,7 @@ use lib.Dec.{eqb}
 use lib.ListN.{length, getD, set, drop, replicate, length-drop}
 use lib.Seq.{set-set, set-getD, getD-set-same, drop-cons}
 use lib.IntN.{ℤ, pos, natAbs, _+ℤ_, _*ℤ_, +ℤ-idl, +ℤ-comm, zero-*ℤ}
-use Rattle.exact.specs.Lists.{from, sum, count}
+use Rattle.exact.specs.Lists.{from, sum}
 use Rattle.exact.proofs.Ring.{ring}
 use Rattle.exact.proofs.Order.{natAbs-+}
 use Rattle.exact.proofs.Numbers.{map-from-at, mul-below}

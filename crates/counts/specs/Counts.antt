@@ -6,6 +6,7 @@ use lib.Dec.{eqb}
 use lib.ListN.{length}
 use Rattle.exact.specs.Lists.{from, each, all, alike, count, largest}
 use Rattle.rules.specs.Plan.{Plan, level, entry, everyColumn}
+use Rattle.rules.specs.declared.Refusal.{Refusal}
 use Rattle.rules.specs.Refusals.{Check, refusal, unless}
 use Rattle.sets.specs.Sets.{choose}
 use Rattle.counts.specs.declared.StrengthAnswer.{StrengthAnswer}
@@ -41,6 +42,10 @@ module _ {R C : Type 0} (level : C → ℕ) (entry : R → C → ℕ) (rs : List
   strength cols = largest (balanced cols) (length cols)
 
 -- of the runs rs of a plan
-unfoldable pub strengthAnswer : Plan → List ℕ → (List Check → List Check) → StrengthAnswer
-strengthAnswer p rs start =
-    let r = refusal (start []) in record { refused = r; strength = unless r 0 (strength (level p) (entry p) rs (everyColumn p)) }
+module _ (p : Plan) (rs : List ℕ) where
+  -- the refusal, and beside it the strength
+  abbrev pub strengthBeside : Refusal → StrengthAnswer
+  strengthBeside r = record { refused = r; strength = unless r 0 (strength (level p) (entry p) rs (everyColumn p)) }
+
+  unfoldable pub strengthAnswer : (List Check → List Check) → StrengthAnswer
+  strengthAnswer start = strengthBeside (refusal (start []))

@@ -1,5 +1,7 @@
 // For our own crates: counts over some runs of a plan, which each caller has shown to be sound.
+use crate::StrengthAnswer;
 use plan::inner::several_levels;
+use rules::Refusal;
 use sets::inner::binomial;
 use sets::inner::set_of;
 ghost use mathlib.Core.Path.{_≡_};
@@ -9,7 +11,7 @@ ghost use lib.ListN.{length};
 ghost use Rattle.exact.specs.Lists.{alike};
 ghost use Rattle.rules.specs.Plan.{plan, level, entry, everyColumn, mostColumns, mostRuns};
 ghost use Rattle.plan.specs.Good.{Sound};
-ghost use Rattle.counts.specs.Counts.{even, balanced, strength};
+ghost use Rattle.counts.specs.Counts.{even, balanced, strength, strengthBeside};
 ghost use Rattle.counts.specs.Numbered.{productOf, numberOf, tallies, Columns};
 ghost use Rattle.counts.specs.Parts.{mostNumbers};
 
@@ -146,4 +148,26 @@ pub fn strength(levels: &[u8], table: &[u8], runs: &[usize]) -> usize
         return levels.len();
     }
     found
+}
+
+// The answer for some runs of a plan, behind the refusal that the call begins with.
+pub fn strength_answer(
+    refused: Refusal,
+    levels: &[u8],
+    table: &[u8],
+    runs: &[usize],
+) -> StrengthAnswer
+    requires { ⌜ (refused .number ≡ 0 → Sound (plan (now levels) (now table)) (now runs) × (1 ≤ length (now runs))) ⌝ }
+    ensures { λ r. ⌜ r ≡ strengthBeside (plan (now (levels .entry)) (now (table .entry))) (now (runs .entry)) refused ⌝ }
+{
+    if refused.number != 0 {
+        return StrengthAnswer {
+            refused,
+            strength: 0,
+        };
+    }
+    StrengthAnswer {
+        refused,
+        strength: strength(levels, table, runs),
+    }
 }

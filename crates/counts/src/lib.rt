@@ -19,18 +19,8 @@ pub fn strength(levels: &[u8], table: &[u8]) -> StrengthAnswer
     ensures { λ r.
         ⌜ (let p = plan (now (levels .entry)) (now (table .entry)) in r ≡ strengthAnswer p (everyRun p) (ofPlan p)) ⌝ }
 {
-    let refused = plan::check(levels, table);
-    if refused.number != 0 {
-        return StrengthAnswer {
-            refused,
-            strength: 0,
-        };
-    }
-    let n = table.len() / levels.len();
-    let runs = plan::inner::every_run(n);
-    let found = inner::strength(levels, table, &runs[..n]);
-    StrengthAnswer {
-        refused,
-        strength: found,
-    }
+    let checked = plan::inner::checked_runs(levels, table);
+    let runs = checked.runs;
+    let count = checked.count;
+    inner::strength_answer(checked.refused, levels, table, &runs[..count])
 }

@@ -1,18 +1,14 @@
 -- What the machine reads back from a number's bits is the number, where it fits: |z| below 2 ^ 63 is enough for every need.
-use mathlib.Core.Path.{_≡_, refl, sym, _∙_, ap}
-use mathlib.Core.Bool.{Bool, true, false}
+use mathlib.Core.Path.{_≡_}
 use Prim.Native.Nat.{ℕ, _≤_, _<_, _^_}
 use native.Mathlib.Nat.{le-refl, lt-of-le-of-lt}
 use native.Mathlib.Omega.{arith}
-use borrow.Author.Tests.{eq-eqb, ne-eqb}
-use lib.Dec.{T, eqb, lit<}
+use lib.Dec.{T, lit<}
 use lib.IntN.{ℤ, pos, negsuc, natAbs}
 use lib.Signed.{mag, nonNeg, yes-nonNeg, pos-natAbs, natAbs-le, _≤ℤ_}
 use mir.Syntax.{w64}
 use mir.Val.{Fits, SFits, toZ, ofZ}
 use mir.ValLaws.{toZ-pos, toZ-ofZ}
-use Rattle.exact.specs.Signed.{eqZ}
-use Rattle.exact.proofs.Order.{eqZ-true, eqZ-false}
 
 mag-le : (z : ℤ) → mag z ≤ natAbs z
 mag-le (pos n) = le-refl n
@@ -50,13 +46,3 @@ module _ {z : ℤ} (p : SFits w64 z) (h : pos 0 ≤ℤ z) where
 
   pub unsigned-is : pos (natAbs (toZ w64 (ofZ w64 z))) ≡ z
   unsigned-is = rw (back p) (pos-natAbs z (yes-nonNeg h))
-
--- two numbers are the same exactly where their bits are
-pub same-bits : {a b : ℤ} → SFits w64 a → SFits w64 b → eqb (ofZ w64 a) (ofZ w64 b) ≡ eqZ a b
-same-bits {a} {b} p q = go (eqZ a b) refl
-  where
-    go : (t : Bool) → eqZ a b ≡ t → eqb (ofZ w64 a) (ofZ w64 b) ≡ t
-    go true e = eq-eqb (ofZ w64 a) (ofZ w64 b) (ap (ofZ w64) (eqZ-true a b e))
-    go false e =
-        ne-eqb (ofZ w64 a) (ofZ w64 b)
-        (λ d. eqZ-false a b e (sym (back p) ∙ ap (toZ w64) d ∙ back q))

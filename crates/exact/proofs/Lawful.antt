@@ -1,25 +1,11 @@
--- What makes a comparison lawful, and that of fractions is.
+-- The comparison of fractions is lawful.
 use mathlib.Core.Path.{_≡_, refl, sym, ap}
 use Prim.Native.Nat.{ℕ, _*_, _<_}
 use native.Mathlib.Nat.{lt-of-mul-lt-mul-right, mul-lt-mul-of-pos-right, eq-of-mul-eq-mul-right}
 use native.Mathlib.Omega.{arith}
 use Rattle.exact.specs.Fractions.{smaller, smallerFraction}
-use Rattle.exact.specs.declared.fractions.Verdict.{Verdict}
-use Rattle.exact.specs.declared.fractions.Verdict.the-variants.{Better, Worse, Equal}
+use Rattle.exact.specs.Lawful.{opposite, Lawful}
 use Rattle.exact.proofs.Verdicts.{smaller-ind, smaller-lt, smaller-gt, smaller-eq, lt-smaller, eq-smaller}
-
-abbrev pub opposite : Verdict → Verdict
-opposite Better = Worse
-opposite Worse = Better
-opposite Equal = Equal
-
--- among the values for which Good holds: none differs from itself, a comparison turned round gives the opposite, better is transitive,
--- and equal values compare alike
-pub record Lawful {A : Type 0} (Good : A → Type 0) (c : A → A → Verdict) : Type 0 where
-  pub same : (x : A) → Good x → c x x ≡ Equal
-  pub turn : (x y : A) → Good x → Good y → c y x ≡ opposite (c x y)
-  pub trans : (x y z : A) → Good x → Good y → Good z → c x y ≡ Better → c y z ≡ Better → c x z ≡ Better
-  pub alike : (x y z : A) → Good x → Good y → Good z → c x y ≡ Equal → c x z ≡ c y z
 
 -- ---- a / b, c / d and e / f, multiplied across
 

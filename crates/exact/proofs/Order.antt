@@ -6,11 +6,9 @@ use Prim.Native.Nat.{ℕ, zero, suc, _+_, _*_, _-_, _≤_, _<_, zero-le}
 use native.Mathlib.Nat.{le-refl, mul-pos, mul-le-mul, zero-lt-suc, le-antisymm}
 use native.Mathlib.Decide.{decLe}
 use native.Mathlib.Omega.{arith}
-use borrow.Author.Tests.{eqb-true, eq-eqb}
 use lib.Dec.{T, ltb, ltb→lt, nltb→le, leb→le, le→leb}
 use lib.IntN.{ℤ, pos, negsuc, negℤ, subℕ, natAbs, _+ℤ_, _-ℤ_, _*ℤ_, +ℤ-assoc}
 use lib.Signed.{_≤ℤ_, leZ, leZ-yes, ≤ℤ-refl}
-use Rattle.exact.specs.Signed.{eqZ}
 use Rattle.exact.proofs.Ring.{ring, *-+}
 
 pub cond-ind : (c : Bool) (x y : ℤ) (P : ℤ → Type 0) → (T c → P x) → (T (not c) → P y) → P (cond c x y)
@@ -165,18 +163,3 @@ pub ≤-total : (a b : ℤ) → (a ≤ℤ b) ⊎ (b ≤ℤ a)
     go : Dec (b ≤ a) → (negsuc a ≤ℤ negsuc b) ⊎ (negsuc b ≤ℤ negsuc a)
     go (yes h) = inl (leZ-yes (le→leb b a h))
     go (no h) = inr (leZ-yes (le→leb a b (omega arith)))
-
--- ---- the same
-
-pub eqZ-true : (a b : ℤ) → eqZ a b ≡ true → a ≡ b
-eqZ-true (pos a) (pos b) e = ap pos (eqb-true a b e)
-eqZ-true (pos a) (negsuc b) e = absurd (subst T (sym e) tt)
-eqZ-true (negsuc a) (pos b) e = absurd (subst T (sym e) tt)
-eqZ-true (negsuc a) (negsuc b) e = ap negsuc (eqb-true a b e)
-
-pub eq-eqZ : (a b : ℤ) → a ≡ b → eqZ a b ≡ true
-eq-eqZ (pos a) b e = rw (← e) (eq-eqb a a refl)
-eq-eqZ (negsuc a) b e = rw (← e) (eq-eqb a a refl)
-
-pub eqZ-false : (a b : ℤ) → eqZ a b ≡ false → ¬ (a ≡ b)
-eqZ-false a b f e = subst T (sym (eq-eqZ a b e) ∙ f) tt

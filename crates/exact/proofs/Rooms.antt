@@ -5,8 +5,8 @@ use Prim.Native.Nat.{ℕ, zero, suc, _+_, _-_, _≤_, _<_}
 use native.Mathlib.Nat.{zero-add}
 use native.Mathlib.Numerals.{add-one}
 use native.Mathlib.Omega.{arith}
-use lib.ListN.{length, getD, set, take, drop, replicate, length-append, length-drop, length-map}
-use lib.Seq.{set-at, getD-at, drop-cons, drop-length, take-suc, append-snoc, length-take-le, take-all}
+use lib.ListN.{length, getD, set, take, drop, replicate, length-append, length-drop, length-map, length-replicate}
+use lib.Seq.{set-at, take-at, getD-at, drop-cons, drop-length, take-suc, append-snoc, length-take-le, take-all}
 use Rattle.exact.specs.Lists.{from, filledTo, into}
 use Rattle.exact.proofs.Numbers.{length-from, from-snoc}
 
@@ -74,3 +74,9 @@ module _ {A : Type 0} where
   filled-next n d xs v h =
       let e : n - length xs ≡ suc (n - (length xs + 1)) = omega arith in
       rw (e, length-append xs (v ∷ []), append-assoc) (set-at xs d (replicate (n - (length xs + 1)) d) v (length xs) refl)
+
+  pub filled-length : (n : ℕ) (d : A) (xs : List A) → length xs ≤ n → length (filledTo n d xs) ≡ n
+  filled-length n d xs h = rw (length-append, length-replicate) (omega arith)
+
+  pub filled-front : (n : ℕ) (d : A) (xs : List A) → take (length xs) (filledTo n d xs) ≡ xs
+  filled-front n d xs = take-at xs (replicate (n - length xs) d) (length xs) refl

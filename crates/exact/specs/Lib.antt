@@ -1,3 +1,3 @@
 pub mod Lists
-pub mod Signed
 pub mod Fractions
+pub mod Lawful

@@ -2,8 +2,7 @@
 ghost use mathlib.Core.Path.{_≡_};
 ghost use Prim.Native.Nat.{_<_, _^_};
 ghost use lib.IntN.{pos, natAbs, _+ℤ_, _-ℤ_, _*ℤ_};
-ghost use lib.Signed.{ltZ, leZ, _≤ℤ_};
-ghost use Rattle.exact.specs.Signed.{eqZ};
+ghost use lib.Signed.{ltZ, _≤ℤ_};
 
 pub fn add(a: i64, b: i64) -> i64
     requires { ⌜ natAbs (a +ℤ b) < 2 ^ 63 ⌝ }
@@ -32,18 +31,6 @@ pub fn lt(a: i64, b: i64) -> bool
     a < b
 }
 
-pub fn le(a: i64, b: i64) -> bool
-    ensures { λ r. ⌜ r ≡ leZ a b ⌝ }
-{
-    a <= b
-}
-
-pub fn eq(a: i64, b: i64) -> bool
-    ensures { λ r. ⌜ r ≡ eqZ a b ⌝ }
-{
-    a == b
-}
-
 pub fn of_byte(x: u8) -> i64
     ensures { λ r. ⌜ r ≡ pos x ⌝ }
 {
@@ -69,11 +56,4 @@ pub fn to_u64(x: i64) -> u64
     ensures { λ r. ⌜ pos r ≡ x ⌝ }
 {
     x as u64
-}
-
-pub fn to_size(x: i64) -> usize
-    requires { ⌜ pos 0 ≤ℤ x ⌝ }
-    ensures { λ r. ⌜ pos r ≡ x ⌝ }
-{
-    x as usize
 }

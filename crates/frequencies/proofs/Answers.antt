@@ -8,15 +8,13 @@ use lib.ListN.{length, take, drop, length-append, length-map}
 use lib.Seq.{take-at}
 use Rattle.exact.specs.Lists.{into}
 use Rattle.rules.specs.declared.Refusal.{Refusal}
-use Rattle.rules.specs.Plan.{Plan, columns}
-use Rattle.rules.specs.Refusals.{refusal, accepted, plain, unless, ofPlan, badSize, badRoom}
-use Rattle.rules.proofs.Ranges.{unless-refused}
-use Rattle.plan.proofs.Checks.{good-own}
+use Rattle.rules.specs.Refusals.{refusal, accepted, plain, orElse, badSize, badRoom}
+use Rattle.rules.proofs.Order.{or-in-turn}
+use Rattle.rules.proofs.Ranges.{or-refused, or-accepted, or-neither, or-assoc}
 use Rattle.plan.proofs.Answers.{answer-refused}
 use Rattle.projections.specs.Given.{SizeOf}
-use Rattle.projections.proofs.Answers.{plan-given, size-refused}
 use Rattle.frequencies.specs.declared.TableAnswer.{TableAnswer}
-use Rattle.frequencies.specs.Frequencies.{Line, Rooms, rooms, shortest, filled, tableAnswer, tableRooms}
+use Rattle.frequencies.specs.Frequencies.{Line, Rooms, rooms, shortest, filled, tableChecks, tableBeside, roomsBeside, tableAnswer, tableRooms}
 
 abbrev pub answered : TableAnswer → Rooms → ℕ → ℕ → List Line → Rooms → Type 0
 answered r R′ m f ls R = (r ≡ tableAnswer (λ checks. checks) m f ls R) × (R′ ≡ tableRooms (λ checks. checks) m f ls R)
@@ -54,23 +52,30 @@ module _ (ls : List Line) (Z R : Rooms) (n : ℕ) (e : n ≡ length ls) (q : R �
       rooms (into (take n (R .nums)) (Q .nums)) (into (take n (R .dens)) (Q .dens)) (into (take n (R .counts)) (Q .counts)) ≡ filled ls Q
   lines-copied Q = rw (nums-front .0, dens-front .0, counts-front .0)
 
--- ---- a call on a plan: r is what the checks of the plan and of the size gave
+-- ---- behind a refusal: r is what the call begins with, s what the check of the size gave, and q the first of them
 
-module _ (p : Plan) (f : ℕ) {r : Refusal} (e : r ≡ refusal (ofPlan p (badSize (columns p) f ∷ []))) (ls : List Line) (R : Rooms) where
-  pub table-refused : ¬ (r .number ≡ 0) →
-      (record { refused = r; lines = 0 } ≡ tableAnswer (ofPlan p) (columns p) f ls R) × (R ≡ tableRooms (ofPlan p) (columns p) f ls R)
-  unfolding tableAnswer tableRooms
-  table-refused n =
-      let q = size-refused p f e (badRoom (length ls) (shortest R)) tt n in (
-        answer-refused (λ r k. record { refused = r; lines = k }) 0 (length ls) q n,
-        sym (ap (λ r. unless r R (filled ls R)) q ∙ unless-refused r R (filled ls R) n),
-      )
+module _ (r : Refusal) (m f : ℕ) (ls : List Line) (R : Rooms) where
+  abbrev whole : Refusal
+  whole = orElse r (refusal (tableChecks m f ls R))
 
-  -- the checks that come first pass, so that the others decide
-  pub table-passed : r .number ≡ 0 →
-      (tableAnswer (λ checks. checks) (columns p) f ls R ≡ tableAnswer (ofPlan p) (columns p) f ls R) ×
-      (tableRooms (λ checks. checks) (columns p) f ls R ≡ tableRooms (ofPlan p) (columns p) f ls R)
-  unfolding tableAnswer tableRooms
-  table-passed z =
-      let q = sym (good-own p (badSize (columns p) f ∷ badRoom (length ls) (shortest R) ∷ []) tt (plan-given p f e z)) in
-      (ap (λ r. record { refused = r; lines = unless r 0 (length ls) }) q, ap (λ r. unless r R (filled ls R)) q)
+  module _ {q s : Refusal} (e : s ≡ refusal (badSize m f ∷ [])) (o : q ≡ orElse r s) where
+    -- that of the rooms comes last
+    last : whole ≡ orElse q (refusal (badRoom (length ls) (shortest R) ∷ []))
+    last =
+        let room = refusal (badRoom (length ls) (shortest R) ∷ []) in
+        ap (orElse r) (sym (or-in-turn (badSize m f ∷ []) (badRoom (length ls) (shortest R) ∷ []) tt) ∙ ap (λ s. orElse s room) (sym e))
+        ∙ sym (or-assoc r s room) ∙ ap (λ q. orElse q room) (sym o)
+
+    pub table-refused : ¬ (q .number ≡ 0) → (record { refused = q; lines = 0 } ≡ tableBeside ls whole) × (R ≡ roomsBeside ls R whole)
+    table-refused n =
+        let w = last ∙ or-refused q (refusal (badRoom (length ls) (shortest R) ∷ [])) n in (
+          answer-refused (λ r k. record { refused = r; lines = k }) 0 (length ls) w n,
+          answer-refused (λ r S. S) R (filled ls R) w n,
+        )
+
+    pub table-passed : q .number ≡ 0 →
+        (tableAnswer (λ checks. checks) m f ls R ≡ tableBeside ls whole) × (tableRooms (λ checks. checks) m f ls R ≡ roomsBeside ls R whole)
+    unfolding tableAnswer tableRooms
+    table-passed z =
+        let w = sym (or-accepted r (refusal (tableChecks m f ls R)) (or-neither r s (ap (λ q. q .number) (sym o) ∙ z) .0)) in
+        (ap (tableBeside ls) w, ap (roomsBeside ls R) w)

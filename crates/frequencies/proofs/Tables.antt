@@ -11,7 +11,8 @@ use Rattle.exact.specs.Fractions.{smallerFraction, isEqual}
 use Rattle.exact.specs.declared.fractions.Fraction.{Fraction}
 use Rattle.exact.specs.declared.fractions.Verdict.{Verdict}
 use Rattle.exact.specs.declared.fractions.Verdict.the-variants.{Better, Worse, Equal}
-use Rattle.exact.proofs.Lawful.{opposite, fractions}
+use Rattle.exact.specs.Lawful.{opposite}
+use Rattle.exact.proofs.Lawful.{fractions}
 use Rattle.exact.proofs.Lists.{grown, count-snoc, count-none, map-cong-in}
 use Rattle.frequencies.specs.Frequencies.{Line, line, pick, insert, insertAll, distinct, times, tableOf, oneMore}
 

@@ -1,6 +1,6 @@
 -- One walk over the sets, value after value: what the rooms hold after k of them, and what a turn needs and does.
-use mathlib.Core.Path.{_≡_, sym, _∙_, ap, ap₂, subst}
-use mathlib.Core.Bool.{Bool}
+use mathlib.Core.Path.{_≡_, refl, sym, _∙_, ap, ap₂, subst}
+use mathlib.Core.Bool.{Bool, true, false}
 use mathlib.Core.List.{List, [], _∷_, _++_, map, List·Memᴰ, Memᴰ·of-map}
 use Prim.Native.Nat.{ℕ, _+_, _-_, _≤_, _<_, _^_}
 use native.Mathlib.Omega.{arith}
@@ -24,7 +24,8 @@ use Rattle.sets.proofs.Places.{set-at-set, every-set}
 use Rattle.sets.proofs.Rising.{set-part}
 use Rattle.sets.proofs.Pascal.{many-sets}
 use Rattle.projections.specs.Projections.{valueIn}
-use Rattle.frequencies.specs.Frequencies.{Line, line, pick, times, tableOf, tableIn, oneMore, Rooms, lineAt, linesIn, filled}
+use Rattle.frequencies.specs.Frequencies.{Line, line, pick, times, tableOf, absoluteTable, relativeTable, tableIn, oneMore}
+use Rattle.frequencies.specs.Frequencies.{Rooms, lineAt, linesIn, filled}
 use Rattle.projections.specs.Given.{SizeOf, Tabled, Projection}
 use Rattle.frequencies.specs.Given.{Fillable, Wide}
 use Rattle.projections.proofs.Products.{part-projection}
@@ -177,23 +178,28 @@ module _ (relative : Bool) (p : Plan) (rs : List ℕ) (f : ℕ) (G : Tabled p rs
   pub set-short : (k : ℕ) → k < binom (columns p) f → ShortDenominator (valueAt k)
   set-short k h = value-short p rs (setAt (columns p) f k) G (set-projection k h) (set-some k h) relative
 
+  -- the table that is asked for is that of the values that are asked for
+  asked : (b : Bool) → tableOf (map (valueIn b p rs) (setsOf (columns p) f)) ≡ tableIn b p rs f
+  unfolding absoluteTable relativeTable
+  asked true = refl
+  asked false = refl
+
   pub whole-table : tableOf (map valueAt (from 0 (binom (columns p) f))) ≡ tableIn relative p rs f
-  unfolding tableIn
   whole-table =
       ap tableOf
       (sym (map-map (valueIn relative p rs) (λ k. setAt (columns p) f k) (from 0 (binom (columns p) f)))
       ∙ ap (map (valueIn relative p rs)) (every-set (columns p) f))
+      ∙ asked relative
 
   -- what document 01 says of the table: strictly rising, none made up, none lost, each count that of its value's sets
   pub table-right : IsTable (map (valueIn relative p rs) (setsOf (columns p) f)) (tableIn relative p rs f)
-  unfolding tableIn
   table-right =
-      table-is (map (valueIn relative p rs) (setsOf (columns p) f))
+      subst (IsTable (map (valueIn relative p rs) (setsOf (columns p) f))) (asked relative) (table-is (map (valueIn relative p rs) (setsOf (columns p) f))
       (λ x m.
       let (I, k, e) = Memᴰ·of-map (valueIn relative p rs) (setsOf (columns p) f) m in
       let (part, l) = choose-part f (from 0 (columns p)) I k in
       let P = part-projection p (G .sound .level-low) (G .sound .small) I part in
-      subst (λ x. 0 < x .den) e (value-short p rs I G P (omega (arith, z .low)) relative .above-zero))
+      subst (λ x. 0 < x .den) e (value-short p rs I G P (omega (arith, z .low)) relative .above-zero)))
 
   pub sets-counted : countedIn (tableIn relative p rs f) ≡ binom (columns p) f
   sets-counted = table-right .counted ∙ length-map (setsOf (columns p) f) (valueIn relative p rs) ∙ many-sets f 0 (columns p)

@@ -1,5 +1,5 @@
 -- Document 01, "Strength, resolution, projections": projection frequency tables (source document 000), and three lent rooms.
-use mathlib.Core.Bool.{Bool}
+use mathlib.Core.Bool.{Bool, cond}
 use mathlib.Core.List.{List, [], _∷_, map}
 use Prim.Native.Nat.{ℕ, _+_, min}
 use lib.ListN.{length, getD}
@@ -8,10 +8,11 @@ use Rattle.exact.specs.Fractions.{smallerFraction, isEqual}
 use Rattle.exact.specs.declared.fractions.Fraction.{Fraction}
 use Rattle.exact.specs.declared.fractions.Verdict.{Verdict}
 use Rattle.exact.specs.declared.fractions.Verdict.the-variants.{Better, Worse, Equal}
-use Rattle.rules.specs.Plan.{Plan, everyColumn}
+use Rattle.rules.specs.Plan.{Plan, level, entry, everyColumn}
+use Rattle.rules.specs.declared.Refusal.{Refusal}
 use Rattle.rules.specs.Refusals.{Check, refusal, unless, badSize, badRoom}
 use Rattle.sets.specs.Sets.{choose}
-use Rattle.projections.specs.Projections.{valueOf, relativeOf, valueIn}
+use Rattle.projections.specs.Projections.{valueOf, relativeOf}
 use Rattle.frequencies.specs.declared.TableAnswer.{TableAnswer}
 
 -- ---- a table: the distinct values, rising, each with its count
@@ -70,8 +71,9 @@ module _ {R C : Type 0} (level : C → ℕ) (entry : R → C → ℕ) (rs : List
   relativeTable f = frequencies (relativeOf level entry rs) cols f
 
 -- the table that is asked for, relative or not
-unfoldable pub tableIn : Bool → Plan → List ℕ → ℕ → List Line
-tableIn relative p rs f = frequencies (valueIn relative p rs) (everyColumn p) f
+abbrev pub tableIn : Bool → Plan → List ℕ → ℕ → List Line
+tableIn relative p rs f =
+    cond relative (relativeTable (level p) (entry p) rs (everyColumn p) f) (absoluteTable (level p) (entry p) rs (everyColumn p) f)
 
 -- ---- three lent rooms: numerators, denominators, counts
 
@@ -105,14 +107,23 @@ abbrev pub shortest : Rooms → ℕ
 shortest rooms = min (length (rooms .nums)) (min (length (rooms .dens)) (length (rooms .counts)))
 
 -- the checks of a call for the table of size f of m columns: 6, and 7 exactly when the distinct values outnumber the shortest room
+abbrev pub tableChecks : ℕ → ℕ → List Line → Rooms → List Check
+tableChecks m f lines rooms = badSize m f ∷ badRoom (length lines) (shortest rooms) ∷ []
+
 abbrev pub tableRefusal : (List Check → List Check) → ℕ → ℕ → List Line → Rooms → List Check
-tableRefusal start m f lines rooms = start (badSize m f ∷ badRoom (length lines) (shortest rooms) ∷ [])
+tableRefusal start m f lines rooms = start (tableChecks m f lines rooms)
 
--- its answer, the number of lines
+-- the refusal, and beside it the number of lines
+abbrev pub tableBeside : List Line → Refusal → TableAnswer
+tableBeside lines r = record { refused = r; lines = unless r 0 (length lines) }
+
+-- the rooms beside a refusal, which leaves every room as it was
+abbrev pub roomsBeside : List Line → Rooms → Refusal → Rooms
+roomsBeside lines rooms r = unless r rooms (filled lines rooms)
+
+-- the answer, and the rooms afterwards
 unfoldable pub tableAnswer : (List Check → List Check) → ℕ → ℕ → List Line → Rooms → TableAnswer
-tableAnswer start m f lines rooms =
-    let r = refusal (tableRefusal start m f lines rooms) in record { refused = r; lines = unless r 0 (length lines) }
+tableAnswer start m f lines rooms = tableBeside lines (refusal (tableRefusal start m f lines rooms))
 
--- the rooms afterwards; a refusal leaves every room as it was
 unfoldable pub tableRooms : (List Check → List Check) → ℕ → ℕ → List Line → Rooms → Rooms
-tableRooms start m f lines rooms = unless (refusal (tableRefusal start m f lines rooms)) rooms (filled lines rooms)
+tableRooms start m f lines rooms = roomsBeside lines rooms (refusal (tableRefusal start m f lines rooms))

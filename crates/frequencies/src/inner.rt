@@ -11,12 +11,13 @@ ghost use Prim.Native.Nat.{_≤_, _<_, min};
 ghost use lib.ListN.{length, take};
 ghost use Rattle.exact.specs.Lists.{into, first};
 ghost use Rattle.exact.specs.Fractions.{ShortDenominator};
-ghost use Rattle.rules.specs.Plan.{plan, columns, everyRun};
-ghost use Rattle.plan.specs.Good.{Good};
+ghost use Rattle.rules.specs.Plan.{plan, columns};
+ghost use Rattle.rules.specs.Refusals.{refusal, orElse};
 ghost use Rattle.sets.specs.Sets.{binom};
 ghost use Rattle.projections.specs.Given.{Tabled, SizeOf};
 ghost use Rattle.frequencies.specs.Given.{Comparable, Fillable, Wide, putBefore, notSmaller};
-ghost use Rattle.frequencies.specs.Frequencies.{tableIn, rooms, linesIn, oneMore, filled, tableAnswer, tableRooms};
+ghost use Rattle.frequencies.specs.Frequencies.{tableIn, rooms, linesIn, oneMore, filled, tableChecks, tableBeside, roomsBeside};
+ghost use Rattle.frequencies.specs.Frequencies.{tableAnswer, tableRooms};
 
 // Puts x in before place `at` of the first `used`; the next place after those is free.
 fn put_before(room: &mut [u64], used: usize, at: usize, x: u64)
@@ -126,12 +127,6 @@ fn smaller(a: usize, b: usize) -> usize
     if a < b { a } else { b }
 }
 
-pub(crate) fn no_table(refused: Refusal) -> TableAnswer
-    ensures { λ r. ⌜ r ≡ record { refused = refused; lines = 0 } ⌝ }
-{
-    TableAnswer { refused, lines: 0 }
-}
-
 // The table for size f in three lent rooms, and the number of its lines; refusal 7 where a room is too short. Nothing is written before
 // the number of lines is known. There are at most 10,626 sets: 4 of 24 columns.
 pub fn frequencies(
@@ -168,7 +163,10 @@ pub fn frequencies(
         &mut sets,
     );
     if smaller(nums.len(), smaller(dens.len(), counts.len())) < lines {
-        return no_table(Refusal::plain(7));
+        return TableAnswer {
+            refused: Refusal::plain(7),
+            lines: 0,
+        };
     }
     copy_into(&values, lines, nums);
     copy_into(&unders, lines, dens);
@@ -179,27 +177,32 @@ pub fn frequencies(
     }
 }
 
-// The same of every run of a plan.
-pub(crate) fn frequencies_of_plan(
+// The answer for some runs of a plan, behind the refusal that the call begins with: 6, of the size, and 7 last.
+pub fn table_answer(
+    refused: Refusal,
     levels: &[u8],
     table: &[u8],
+    runs: &[usize],
     f: usize,
     relative: bool,
     nums: &mut [u64],
     dens: &mut [u64],
     counts: &mut [u64],
 ) -> TableAnswer
-    requires { ⌜ Good (plan (now levels) (now table)) × SizeOf (length (now levels)) f ⌝ }
+    requires { ⌜ (refused .number ≡ 0 → Tabled (plan (now levels) (now table)) (now runs)) ⌝ }
     ensures answer { λ r. ⌜ (let p = plan (now (levels .entry)) (now (table .entry)) in
-        let ls = tableIn relative p (everyRun p) f in
+        let ls = tableIn relative p (now (runs .entry)) f in
         let R = rooms (now (nums .entry)) (now (dens .entry)) (now (counts .entry)) in
-        r ≡ tableAnswer (λ checks. checks) (columns p) f ls R) ⌝ }
+        r ≡ tableBeside ls (orElse refused (refusal (tableChecks (columns p) f ls R)))) ⌝ }
     ensures rooms { λ _. ⌜ (let p = plan (now (levels .entry)) (now (table .entry)) in
-        let ls = tableIn relative p (everyRun p) f in
+        let ls = tableIn relative p (now (runs .entry)) f in
         let R = rooms (now (nums .entry)) (now (dens .entry)) (now (counts .entry)) in
-        rooms (now (nums .exit)) (now (dens .exit)) (now (counts .exit)) ≡ tableRooms (λ checks. checks) (columns p) f ls R) ⌝ }
+        rooms (now (nums .exit)) (now (dens .exit)) (now (counts .exit))
+        ≡ roomsBeside ls R (orElse refused (refusal (tableChecks (columns p) f ls R)))) ⌝ }
 {
-    let n = table.len() / levels.len();
-    let runs = plan::inner::every_run(n);
-    frequencies(levels, table, &runs[..n], f, relative, nums, dens, counts)
+    let refused = refused.or_else(sets::inner::check_size(levels.len(), f));
+    if refused.number != 0 {
+        return TableAnswer { refused, lines: 0 };
+    }
+    frequencies(levels, table, runs, f, relative, nums, dens, counts)
 }

@@ -1,5 +1,4 @@
 // Projection frequency tables (document 01, "Strength, resolution, projections").
-use projections::inner::check_size;
 use rules::Refusal;
 ghost use mathlib.Core.Path.{_≡_};
 ghost use Rattle.rules.specs.Plan.{plan, columns, level, entry, everyRun, everyColumn};
@@ -33,11 +32,20 @@ pub fn frequencies(
         let R = rooms (now (nums .entry)) (now (dens .entry)) (now (counts .entry)) in
         rooms (now (nums .exit)) (now (dens .exit)) (now (counts .exit)) ≡ tableRooms (ofPlan p) (columns p) f ls R) ⌝ }
 {
-    let refused = check_size(levels, table, f);
-    if refused.number != 0 {
-        return inner::no_table(refused);
-    }
-    inner::frequencies_of_plan(levels, table, f, relative, nums, dens, counts)
+    let checked = plan::inner::checked_runs(levels, table);
+    let runs = checked.runs;
+    let count = checked.count;
+    inner::table_answer(
+        checked.refused,
+        levels,
+        table,
+        &runs[..count],
+        f,
+        relative,
+        nums,
+        dens,
+        counts,
+    )
 }
 
 // The distinct values of W(I) / n² over all sets of f columns, rising, each with its count: three lent rooms for numerators,

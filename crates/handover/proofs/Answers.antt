@@ -10,12 +10,12 @@ use lib.ListN.{length, drop, length-append}
 use Rattle.exact.specs.Lists.{into}
 use Rattle.rules.specs.declared.Refusal.{Refusal}
 use Rattle.rules.specs.Plan.{mostColumns}
-use Rattle.rules.specs.Refusals.{Check, refusal, refuses, accepted, plain, unless, badRoom}
+use Rattle.rules.specs.Refusals.{Check, refusal, refuses, accepted, plain, unless, orElse, badRoom}
 use Rattle.rules.proofs.Ranges.{unless-refused, unless-accepted}
 use Rattle.held.specs.declared.Held.{Held}
 use Rattle.held.specs.declared.HeldAnswer.{HeldAnswer}
 use Rattle.held.specs.Held.{IsHeld, planIn, standingIn}
-use Rattle.standing.proofs.Asked.{none-refuses, some-asks}
+use Rattle.held.proofs.Lent.{none-refuses, some-asks}
 use Rattle.text.specs.Reader.{readRefusal, filled}
 use Rattle.writer.specs.declared.WriteAnswer.{WriteAnswer}
 use Rattle.writer.specs.Writer.{writeAnswer}
@@ -31,7 +31,6 @@ use Rattle.handover.specs.Handover.{
   leftOf,
   rewritten,
   runsLeft,
-  orElse,
   rewriteRefusal,
   rewriteAnswer,
 }

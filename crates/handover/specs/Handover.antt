@@ -4,11 +4,11 @@ use Prim.Native.Nat.{ℕ}
 use lib.ListN.{length}
 use Rattle.rules.specs.declared.Refusal.{Refusal}
 use Rattle.rules.specs.Plan.{mostColumns}
-use Rattle.rules.specs.Refusals.{refusal, accepted, unless, badRoom}
+use Rattle.rules.specs.Refusals.{refusal, accepted, unless, orElse, badRoom}
 use Rattle.held.specs.declared.Held.{Held}
 use Rattle.held.specs.declared.HeldAnswer.{HeldAnswer}
 use Rattle.held.specs.Held.{planIn, standingIn, openAnswer, strikes, callAnswer}
-use Rattle.standing.specs.Answers.{ofStanding}
+use Rattle.held.specs.Held.{ofStanding}
 use Rattle.text.specs.Text.{planOf}
 use Rattle.text.specs.Reader.{readRefusal, filled}
 use Rattle.writer.specs.Writer.{textOf}
@@ -58,10 +58,6 @@ rewritten text lost = textIn (leftOf text lost .held)
 
 abbrev pub runsLeft : List ℕ → List ℕ → List ℕ
 runsLeft text lost = standingIn (leftOf text lost .held)
-
--- the first refusal, and where there is none the second
-abbrev pub orElse : Refusal → Refusal → Refusal
-orElse r s = unless r r s
 
 -- the reader's refusal, its rooms holding every accepted plan; then that of the first refused strike; then that of the text
 unfoldable pub rewriteRefusal : List ℕ → List ℕ → ℕ → ℕ → Refusal

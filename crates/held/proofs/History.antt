@@ -36,7 +36,7 @@ use Rattle.held.specs.Held.{
   remarked,
   callAnswer,
 }
-use Rattle.held.specs.History.{isAccepted, after, orElse, own, lastOf, standsBy, markOf}
+use Rattle.held.specs.History.{isAccepted, after, orBefore, own, lastOf, standsBy, markOf}
 use Rattle.held.proofs.Standing.{marked, stands-marked, fewer, set-same}
 use Rattle.held.proofs.Marks.{answered, refusalOf, marksAfter, Accepts, accepts, after-ind, length-after, left-after, marks-in, plan-in, call-is, call-empty}
 
@@ -216,7 +216,7 @@ in-room none-held c e = never-empty c e
 in-room (held p marks G size left) c e =
     rw (length-append marks (replicate (mostRuns - length marks) false)) (omega (arith, accepts-held p G marks size c e .there))
 
-stands-then : (b : Bool) (c d : Option Call) → standsBy (standsBy b d) c ≡ standsBy b (orElse c d)
+stands-then : (b : Bool) (c d : Option Call) → standsBy (standsBy b d) c ≡ standsBy b (orBefore c d)
 stands-then b none d = refl
 stands-then b (some c) d = refl
 

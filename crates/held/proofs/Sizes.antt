@@ -3,9 +3,9 @@ use mathlib.Core.Path.{_≡_, refl}
 use mathlib.Core.List.{List, [], _∷_, List·Memᴰ, List·Memᴰ·not-nil}
 use Prim.Native.Nat.{ℕ, _*_, _≤_, _<_}
 use native.Mathlib.Omega.{arith}
-use lib.ListN.{length, length-append, length-replicate}
-use Rattle.exact.specs.Lists.{filledTo}
+use lib.ListN.{length, length-replicate}
 use Rattle.exact.proofs.Numbers.{length-from, mul-below}
+use Rattle.exact.proofs.Rooms.{filled-length}
 use Rattle.rules.specs.Plan.{Plan, columns, runs, everyRun}
 use Rattle.plan.specs.Good.{Sound}
 use Rattle.plan.proofs.Sound.{run-mem, good-sound}
@@ -27,9 +27,6 @@ some-sound p rs ss S fewer among = record {
   inside = λ f m. S .inside f (among f m);
   below = λ f m. S .below f (among f m);
 }
-
-pub filled : {A : Type 0} (n : ℕ) (d : A) (xs : List A) → length xs ≤ n → length (filledTo n d xs) ≡ n
-filled n d xs h = rw (length-append, length-replicate) (omega arith)
 
 pub record Sized (h : Held) : Type 0 where
   pub columns-high : h .columns ≤ 24
@@ -74,8 +71,8 @@ sized (held p marks G size left) = record {
       rw (plan-in p G marks size, marks-in p marks size)
       (some-sound p (everyRun p) (standing marks) (good-sound p G) (omega (arith, standing-within marks, length-from 0 (runs p)))
       (λ f m. run-mem p f (omega (arith, stands-below marks f m))));
-  levels-room = filled 24 0 (p .levels) (G .columns-high);
-  entries-room = filled 6144 0 (p .table) (omega (arith, G .size, mul-below (runs p) (columns p) 256 24 (G .runs-high) (G .columns-high)));
+  levels-room = filled-length 24 0 (p .levels) (G .columns-high);
+  entries-room = filled-length 6144 0 (p .table) (omega (arith, G .size, mul-below (runs p) (columns p) 256 24 (G .runs-high) (G .columns-high)));
   marks-held = rw (marks-in p marks size) size;
   columns-low = λ h. G .columns-low;
   each = λ f h. rw (plan-in p G marks size) (sound-run p (everyRun p) (good-sound p G) f (run-mem p f h));

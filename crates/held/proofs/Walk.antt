@@ -9,6 +9,7 @@ use lib.Seq.{take-length, length-take-le}
 use Rattle.exact.specs.Lists.{filledTo}
 use Rattle.exact.proofs.Rooms.{filled-next}
 use Rattle.rules.specs.Plan.{mostRuns}
+use Rattle.rules.specs.Refusals.{refusal, tooFew}
 use Rattle.held.specs.Held.{standing}
 use Rattle.held.specs.Given.{standingOf}
 use Rattle.held.proofs.Standing.{standing-within, one-more}
@@ -44,6 +45,6 @@ module _ (marks : List Bool) where
         record { are = rw more (W .are); many = rw more (W .many) }
 
   pub walk-ends : (f : ℕ) {runs : List ℕ} {count : ℕ} → f ≡ length marks → Walked marks f runs count →
-      record { runs = runs; count = count } ≡ standingOf marks
+      record { refused = refusal (tooFew 1 count ∷ []); runs = runs; count = count } ≡ standingOf marks
   unfolding standingOf
   walk-ends f e W = rw (W .are, W .many, e, take-length marks)

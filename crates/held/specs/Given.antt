@@ -1,19 +1,24 @@
 -- What the routines behind a call are given, and what they make of it.
 use mathlib.Core.Path.{_≡_}
 use mathlib.Core.Bool.{Bool, true, false, not}
-use mathlib.Core.List.{List, map}
+use mathlib.Core.List.{List, [], _∷_, map}
 use Prim.Native.Nat.{ℕ, _<_}
 use lib.IntN.{ℤ, pos, negsuc, _+ℤ_, _*ℤ_}
 use lib.ListN.{length, getD}
 use Rattle.exact.specs.Lists.{from, filledTo}
 use Rattle.rules.specs.Plan.{mostColumns, mostRuns}
+use Rattle.rules.specs.Refusals.{refusal, tooFew}
 use Rattle.held.specs.Held.{IsHeld, standing}
 use Rattle.held.specs.declared.Held.{Held}
 use Rattle.held.specs.declared.inner.Standing.{Standing}
 
--- the standing runs of these marks, and how many they are
+-- refusal 10 where no run stands, the standing runs of these marks, and how many they are
 unfoldable pub standingOf : List Bool → Standing
-standingOf marks = record { runs = filledTo mostRuns 0 (standing marks); count = length (standing marks) }
+standingOf marks = record {
+  refused = refusal (tooFew 1 (length (standing marks)) ∷ []);
+  runs = filledTo mostRuns 0 (standing marks);
+  count = length (standing marks);
+}
 
 -- a call that changes the mark of run f to b
 pub record Changes (h : Held) (f : ℕ) (b : Bool) : Type 0 where

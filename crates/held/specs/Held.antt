@@ -6,7 +6,7 @@ use Prim.Native.Nat.{ℕ, suc, _*_, _<_}
 use lib.ListN.{length, getD, set, take, replicate}
 use Rattle.exact.specs.Lists.{filledTo}
 use Rattle.rules.specs.Plan.{Plan, plan, columns, runs, mostColumns, mostRuns}
-use Rattle.rules.specs.Refusals.{Check, refusal, unless, planChecks, badPlace, already, tooFew}
+use Rattle.rules.specs.Refusals.{Check, refusal, unless, ofHeld, planChecks, badPlace, already, tooFew}
 use Rattle.plan.specs.Good.{Good}
 use Rattle.words.specs.Answers.{wordList, zeros}
 use Rattle.held.specs.declared.Held.{Held}
@@ -60,6 +60,10 @@ planIn h = plan (take (h .columns) (h .levels)) (take (h .runs * h .columns) (h 
 
 abbrev pub standingIn : Held → List ℕ
 standingIn h = standing (marksIn h)
+
+-- how a call that names no run begins: where none stands the answer is 10, ahead of every other check
+abbrev pub ofStanding : Held → List Check → List Check
+ofStanding h checks = ofHeld (standingIn h) checks
 
 -- ---- opening: the plan is checked; all runs stand
 

@@ -17,9 +17,10 @@ abbrev pub after : Held → List Call → Held
 after h [] = h
 after h (c ∷ cs) = after (callAnswer h c .held) cs
 
-abbrev pub orElse : Option Call → Option Call → Option Call
-orElse none d = d
-orElse (some c) d = some c
+-- the call, and where there is none the one before
+abbrev pub orBefore : Option Call → Option Call → Option Call
+orBefore none d = d
+orBefore (some c) d = some c
 
 -- the call, where it names run f and is accepted
 abbrev pub own : Held → Call → ℕ → Option Call
@@ -28,7 +29,7 @@ own h c f = cond (eqb (runOf c) f) (cond (isAccepted h c) (some c) none) none
 -- the last accepted strike or reinstatement of run f
 abbrev pub lastOf : Held → List Call → ℕ → Option Call
 lastOf h [] f = none
-lastOf h (c ∷ cs) f = orElse (lastOf (callAnswer h c .held) cs f) (own h c f)
+lastOf h (c ∷ cs) f = orBefore (lastOf (callAnswer h c .held) cs f) (own h c f)
 
 -- a run stands unless the last accepted strike or reinstatement of it was a strike; without one, as before
 abbrev pub standsBy : Bool → Option Call → Bool

@@ -1,6 +1,7 @@
 // The runs that stand, and the words that a change of mark leaves.
 use crate::Held;
 use exact::signed;
+use rules::Refusal;
 ghost use mathlib.Core.Path.{_≡_};
 ghost use Prim.Native.Nat.{_≤_, _^_};
 ghost use lib.IntN.{natAbs};
@@ -8,8 +9,10 @@ ghost use Rattle.words.specs.Given.{Row};
 ghost use Rattle.held.specs.Held.{IsHeld, marksIn};
 ghost use Rattle.held.specs.Given.{standingOf, factorOf, changed};
 
-// The first `count` places hold the numbers of the standing runs, rising; the others zero.
+// How a question to a held plan begins: refusal 10 where no run stands. The first `count` places hold the numbers of the standing runs,
+// rising; the others zero.
 pub struct Standing {
+    pub refused: Refusal,
     pub runs: [usize; 256],
     pub count: usize,
 }
@@ -29,7 +32,12 @@ pub fn standing_runs(held: Held) -> Standing
             count += 1;
         }
     }
-    Standing { runs, count }
+    let refused = Refusal::too_few(1, count);
+    Standing {
+        refused,
+        runs,
+        count,
+    }
 }
 
 // Twice the row sum is taken off the words at a strike, and added at a reinstatement.

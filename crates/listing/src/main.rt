@@ -1,6 +1,7 @@
 // Reads plan text and writes its listing.
 use libc::STDIN_FILENO;
 use report::MOST_BYTES;
+use rules::Refusal;
 
 fn main() {
     let mut text = console::text_room();
@@ -13,7 +14,7 @@ fn main() {
     let mut lines = [0u8; MOST_BYTES];
     let answer = report::listing(&text[..size], &mut lines);
     let bytes = answer.bytes;
-    let refused = console::refusal_of(&text[..size]);
+    let refused: Refusal = console::refusal_of(&text[..size]);
     if refused.number != 0 {
         console::refuse(&lines[..bytes], &text[..size], refused);
         return;

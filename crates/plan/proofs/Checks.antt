@@ -1,6 +1,6 @@
 -- Nothing is refused exactly for a good plan; and a call asks its own checks only of a good plan.
-use mathlib.Core.Path.{_≡_, refl, _∙_, ap}
-use mathlib.Core.Bool.{false, not, _||_}
+use mathlib.Core.Path.{_≡_, refl, sym, _∙_, ap}
+use mathlib.Core.Bool.{Bool, true, false, not, _||_}
 use mathlib.Core.List.{List, [], List·Memᴰ·head, List·Memᴰ·tail, List·Memᴰ·not-nil}
 use Prim.Native.Nat.{ℕ, zero, suc, _+_, _*_, _/_, _%_, _≤_, _<_}
 use native.Mathlib.Nat.{div-add-mod', zero-mul, mul-pos, mod-lt, div-lt-iff-lt-mul}
@@ -18,6 +18,7 @@ use Rattle.rules.specs.Refusals.{
   Check,
   refusal,
   accepted,
+  orElse,
   badColumns,
   badLevel,
   firstBadLevel,
@@ -30,7 +31,7 @@ use Rattle.rules.specs.Refusals.{
   planChecks,
   ofPlan,
 }
-use Rattle.rules.proofs.Ranges.{inside, not-outside}
+use Rattle.rules.proofs.Ranges.{inside, not-outside, or-refused, or-accepted}
 use Rattle.rules.proofs.Order.{each-cons, inTurn, passed-none, none-passed, refused-by-first, passed-by-first}
 use Rattle.plan.specs.Good.{Good}
 use Rattle.plan.proofs.Loops.{search-none, none-search, badLevelIn, badEntryIn, column-of}
@@ -151,6 +152,13 @@ module _ (p : Plan) (checks : List Check) (turn : T (inTurn (planChecks p) check
 
   pub plan-passed : {r : Refusal} → r ≡ refusal (planChecks p) → r .number ≡ 0 → refusal (ofPlan p checks) ≡ refusal checks
   plan-passed = passed-by-first (planChecks p) checks turn
+
+  pub plan-handed : {r : Refusal} → r ≡ refusal (planChecks p) → orElse r (refusal checks) ≡ refusal (ofPlan p checks)
+  plan-handed {r} e = go (eqb (r .number) 0) refl
+    where
+      go : (b : Bool) → eqb (r .number) 0 ≡ b → orElse r (refusal checks) ≡ refusal (ofPlan p checks)
+      go true q = let z = eqb-true (r .number) 0 q in or-accepted r (refusal checks) z ∙ sym (plan-passed e z)
+      go false q = let n = eqb-false (r .number) 0 q in or-refused r (refusal checks) n ∙ sym (plan-refused e n)
 
   pub good-own : Good p → refusal (ofPlan p checks) ≡ refusal checks
   good-own G = plan-passed refl (ap (λ r. r .number) (good-passed p G))

@@ -4,3 +4,4 @@ pub mod Answers
 pub mod Sound
 pub mod Several
 pub mod Figures
+pub mod CheckedRuns

@@ -2,32 +2,21 @@
 use mathlib.Core.Path.{_≡_, refl, sym, _∙_, ap}
 use mathlib.Core.Bool.{Bool, true, false}
 use mathlib.Core.List.{List, [], _∷_}
-use Prim.Native.Nat.{ℕ, zero, suc, _≤_, _<_, _^_}
-use native.Mathlib.Omega.{arith}
+use Prim.Native.Nat.{ℕ, zero, suc, _≤_}
 use borrow.Author.Tests.{eq-eqb, ne-eqb, eqb-true, eqb-false}
 use lib.Dec.{T, eqb}
-use lib.IntN.{ℤ, pos, negℤ, natAbs, _-ℤ_, +ℤ-idl}
-use lib.ListN.{length}
+use lib.IntN.{ℤ, pos, negℤ}
 use lib.Signed.{_≤ℤ_, ltZ}
-use Rattle.exact.proofs.Order.{natAbs-neg}
 use Rattle.rules.specs.Plan.{Plan, columns, level, entry, everyRun, everyColumn}
-use Rattle.rules.specs.Refusals.{Check, refusal, unless, planChecks, ofPlan, badLength, badRoom}
-use Rattle.rules.proofs.Order.{number-most}
-use Rattle.rules.proofs.Ranges.{unless-refused, unless-accepted}
+use Rattle.rules.specs.Refusals.{Check, refusal, unless, planChecks, ofPlan, badLength}
 use Rattle.plan.proofs.Checks.{passed-good, plan-refused}
 use Rattle.plan.proofs.Sound.{good-sound}
 use Rattle.words.specs.declared.WordAnswer.{WordAnswer}
 use Rattle.words.specs.Words.{word}
 use Rattle.words.specs.Answers.{wordAnswer, plannerWord}
 use Rattle.words.proofs.OfPlan.{word-not-negative}
-use Rattle.report.specs.declared.ListingAnswer.{ListingAnswer}
-use Rattle.report.specs.Listing.{listing, listingAnswer, plannerListing}
 
 module _ (p : Plan) (j : ℕ) (a : WordAnswer) (e : a ≡ wordAnswer p (everyRun p) (ofPlan p) j) where
-  pub number-small : a .refused .number ≤ 14
-  unfolding wordAnswer
-  number-small = rw e (number-most (ofPlan p (badLength (columns p) j ∷ [])))
-
   pub planner-refused : ¬ (a .refused .number ≡ 0) → plannerWord p j ≡ negℤ (pos (a .refused .number))
   unfolding plannerWord
   planner-refused n = rw (← e, ne-eqb (a .refused .number) 0 n)
@@ -62,27 +51,3 @@ module _ (p : Plan) (j : ℕ) (a : WordAnswer) (e : a ≡ wordAnswer p (everyRun
       go false q =
           let n = eqb-false (refusal (planChecks p) .number) 0 q in
           absurd (n (ap (λ r. r .number) (sym (plan-refused p own tt refl n)) ∙ ap (λ x. x .refused .number) (sym e) ∙ z))
-
--- ---- the listing
-
-module _ (text room : List ℕ) (a : ListingAnswer) (e : a ≡ listingAnswer text room) where
-  pub room-number-small : a .refused .number ≤ 14
-  unfolding listingAnswer
-  room-number-small = rw e (number-most (badRoom (length (listing text)) (length room) ∷ []))
-
-  pub listing-refused : ¬ (a .refused .number ≡ 0) → plannerListing text room ≡ negℤ (pos (a .refused .number))
-  unfolding plannerListing
-  listing-refused n = rw (← e) (unless-refused (a .refused) (negℤ (pos (a .refused .number))) (pos (a .bytes)) n)
-
-  pub listing-bytes : a .refused .number ≡ 0 → plannerListing text room ≡ pos (a .bytes)
-  unfolding plannerListing
-  listing-bytes z = rw (← e) (unless-accepted (a .refused) (negℤ (pos (a .refused .number))) (pos (a .bytes)) z)
-
--- ---- a number negated
-
--- 0 less a small number is that number negated, and fits
-pub less : (n : ℕ) → pos 0 -ℤ pos n ≡ negℤ (pos n)
-less n = +ℤ-idl (negℤ (pos n))
-
-pub less-small : (n : ℕ) → n ≤ 14 → natAbs (pos 0 -ℤ pos n) < 2 ^ 63
-less-small n h = rw (less n, natAbs-neg (pos n)) (omega arith)

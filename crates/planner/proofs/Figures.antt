@@ -2,9 +2,9 @@
 use mathlib.Core.Path.{_≡_, refl}
 use mathlib.Core.List.{[], _∷_}
 use lib.IntN.{pos, negsuc}
-use Rattle.rules.specs.Refusals.{accepted, plain, placed}
-use Rattle.planner.specs.Exports.{bytesOr}
+use Rattle.rules.specs.Refusals.{accepted, plain, placed, numberOr}
 
-pub bytes-or-refusals :
-    bytesOr accepted 16 ∷ bytesOr accepted 0 ∷ bytesOr (plain 7) 0 ∷ bytesOr (placed 14 3 0) 0 ∷ [] ≡ pos 16 ∷ pos 0 ∷ negsuc 6 ∷ negsuc 13 ∷ []
-bytes-or-refusals = refl
+pub number-or-refusals :
+    numberOr accepted (pos 16) ∷ numberOr accepted (pos 0) ∷ numberOr (plain 7) (pos 0) ∷ numberOr (placed 14 3 0) (pos 0) ∷ []
+    ≡ pos 16 ∷ pos 0 ∷ negsuc 6 ∷ negsuc 13 ∷ []
+number-or-refusals = refl

@@ -1,4 +1,3 @@
 pub mod Answers
-pub mod Rewritten
-pub mod Twelve
 pub mod Figures
+pub mod Calls

@@ -1,43 +1,23 @@
 // What a C program links: functions on slices of bytes and of run numbers, and on numbers (include/crumbchorus.h).
 use exact::signed;
-use rules::Refusal;
 ghost use mathlib.Core.Path.{_≡_};
-ghost use Prim.Native.Nat.{_≤_, _<_, _^_};
-ghost use lib.IntN.{pos, negℤ};
+ghost use lib.IntN.{pos};
 ghost use lib.ListN.{length};
 ghost use Rattle.rules.specs.Plan.{plan, everyRun};
-ghost use Rattle.rules.specs.Refusals.{ofPlan};
+ghost use Rattle.rules.specs.Refusals.{ofPlan, numberOr};
 ghost use Rattle.words.specs.Answers.{plannerWord};
 ghost use Rattle.text.specs.Reader.{filled};
 ghost use Rattle.writer.specs.Writer.{writeText, writeAnswer};
 ghost use Rattle.handover.specs.Handover.{rewriteAnswer, rewritten, runsLeft};
 ghost use Rattle.report.specs.Listing.{plannerListing, listingRoom};
-ghost use Rattle.planner.specs.Exports.{version, bytesOr};
+ghost use Rattle.planner.specs.Exports.{version};
 
 // The version of this library, as the header writes it.
 #[no_mangle]
 pub extern "C" fn crumb_version() -> u64
     ensures { λ r. ⌜ r ≡ version ⌝ }
 {
-    700
-}
-
-fn negated(number: u64) -> i64
-    requires { ⌜ number ≤ 14 ⌝ }
-    ensures { λ r. ⌜ r ≡ negℤ (pos number) ⌝ }
-{
-    signed::sub(0, signed::of_u64(number))
-}
-
-fn bytes_or(refused: Refusal, bytes: usize) -> i64
-    requires { ⌜ (refused .number ≤ 14) × (bytes < 2 ^ 63) ⌝ }
-    ensures { λ r. ⌜ r ≡ bytesOr refused bytes ⌝ }
-{
-    let number = refused.number;
-    if number != 0 {
-        return negated(number);
-    }
-    signed::of_size(bytes)
+    800
 }
 
 // The scaled word of one length, or the refusal number negated.
@@ -46,11 +26,8 @@ pub extern "C" fn crumb_word(levels: &[u8], table: &[u8], length: u64) -> i64
     ensures { λ r. ⌜ r ≡ plannerWord (plan (now (levels .entry)) (now (table .entry))) length ⌝ }
 {
     let answer = words::word(levels, table, length as usize);
-    let number = answer.refused.number;
-    if number != 0 {
-        return negated(number);
-    }
-    answer.word
+    let refused = answer.refused;
+    refused.number_or(answer.word)
 }
 
 // The listing of a plan text, or the line of what refuses it, into the lent room: the number of bytes, or -7 where the room is too small.
@@ -59,12 +36,9 @@ pub extern "C" fn crumb_listing(text: &[u8], room: &mut [u8]) -> i64
     ensures answer { λ r. ⌜ r ≡ plannerListing (now (text .entry)) (now (room .entry)) ⌝ }
     ensures room { λ r. ⌜ now (room .exit) ≡ listingRoom (now (text .entry)) (now (room .entry)) ⌝ }
 {
-    let answer = report::listing(text, room);
-    let number = answer.refused.number;
-    if number != 0 {
-        return negated(number);
-    }
-    signed::of_size(answer.bytes)
+    let listed = report::listing(text, room);
+    let refused = listed.refused;
+    refused.number_or(signed::of_size(listed.bytes))
 }
 
 // The text of a plan into the lent room: the number of bytes, or the refusal number negated.
@@ -72,13 +46,14 @@ pub extern "C" fn crumb_listing(text: &[u8], room: &mut [u8]) -> i64
 pub extern "C" fn crumb_write(levels: &[u8], table: &[u8], room: &mut [u8]) -> i64
     ensures answer { λ r. ⌜ (let p = plan (now (levels .entry)) (now (table .entry)) in
         let a = writeAnswer p (everyRun p) (ofPlan p) (length (now (room .entry))) in
-        r ≡ bytesOr (a .refused) (a .bytes)) ⌝ }
+        r ≡ numberOr (a .refused) (pos (a .bytes))) ⌝ }
     ensures room { λ _. ⌜ (let p = plan (now (levels .entry)) (now (table .entry)) in
         let a = writeAnswer p (everyRun p) (ofPlan p) (length (now (room .entry))) in
         now (room .exit) ≡ filled (a .refused) (writeText p) (now (room .entry))) ⌝ }
 {
-    let answer = writer::write(levels, table, room);
-    bytes_or(answer.refused, answer.bytes)
+    let written = writer::write(levels, table, room);
+    let refused = written.refused;
+    refused.number_or(signed::of_size(written.bytes))
 }
 
 // The text of a plan without its lost runs, and the original numbers of the runs left, each into its lent room: the number of bytes,
@@ -91,12 +66,13 @@ pub extern "C" fn crumb_rewrite(
     numbers: &mut [usize],
 ) -> i64
     ensures answer { λ r. ⌜ (let a = rewriteAnswer (now (text .entry)) (now (lost .entry)) (length (now (room .entry))) (length (now (numbers .entry))) in
-        r ≡ bytesOr (a .refused) (a .bytes)) ⌝ }
+        r ≡ numberOr (a .refused) (pos (a .bytes))) ⌝ }
     ensures room { λ _. ⌜ (let a = rewriteAnswer (now (text .entry)) (now (lost .entry)) (length (now (room .entry))) (length (now (numbers .entry))) in
         now (room .exit) ≡ filled (a .refused) (rewritten (now (text .entry)) (now (lost .entry))) (now (room .entry))) ⌝ }
     ensures numbers { λ _. ⌜ (let a = rewriteAnswer (now (text .entry)) (now (lost .entry)) (length (now (room .entry))) (length (now (numbers .entry))) in
         now (numbers .exit) ≡ filled (a .refused) (runsLeft (now (text .entry)) (now (lost .entry))) (now (numbers .entry))) ⌝ }
 {
-    let answer = handover::rewrite(text, lost, room, numbers);
-    bytes_or(answer.refused, answer.bytes)
+    let left = handover::rewrite(text, lost, room, numbers);
+    let refused = left.refused;
+    refused.number_or(signed::of_size(left.bytes))
 }

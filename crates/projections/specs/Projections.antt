@@ -8,6 +8,7 @@ use Rattle.exact.specs.Lists.{smallest, holds}
 use Rattle.exact.specs.Fractions.{zeroFraction, reduced}
 use Rattle.exact.specs.declared.fractions.Fraction.{Fraction}
 use Rattle.rules.specs.Plan.{Plan, columns, level, entry}
+use Rattle.rules.specs.declared.Refusal.{Refusal}
 use Rattle.rules.specs.Refusals.{Check, refusal, unless, badSize, badSet}
 use Rattle.words.specs.Words.{wordOf}
 use Rattle.projections.specs.declared.SetWordAnswer.{SetWordAnswer}
@@ -31,7 +32,14 @@ valueIn relative p rs I = cond relative (relativeOf (level p) (entry p) rs I) (v
 
 -- ---- W(I) of one set of f columns
 
-unfoldable pub setWordAnswer : Plan → List ℕ → (List Check → List Check) → ℕ → List ℕ → SetWordAnswer
-setWordAnswer p rs start f I =
-    let r = refusal (start (badSize (columns p) f ∷ badSet (columns p) f I ∷ [])) in
-    record { refused = r; word = unless r (pos 0) (wordOf (level p) (entry p) rs I) }
+abbrev pub setWordChecks : Plan → ℕ → List ℕ → List Check
+setWordChecks p f I = badSize (columns p) f ∷ badSet (columns p) f I ∷ []
+
+-- of the runs rs of a plan
+module _ (p : Plan) (rs : List ℕ) where
+  -- the refusal, and beside it W(I)
+  abbrev pub setWordBeside : Refusal → List ℕ → SetWordAnswer
+  setWordBeside r I = record { refused = r; word = unless r (pos 0) (wordOf (level p) (entry p) rs I) }
+
+  unfoldable pub setWordAnswer : (List Check → List Check) → ℕ → List ℕ → SetWordAnswer
+  setWordAnswer start f I = setWordBeside (refusal (start (setWordChecks p f I))) I

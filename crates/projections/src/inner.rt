@@ -1,24 +1,25 @@
 // For our own crates: W(I) and its value over some runs of a plan, each named by its number. The runs that stand are such a list.
 use crate::Engine;
+use crate::SetWordAnswer;
 use exact::fractions::Fraction;
 use exact::fractions::reduced;
 use exact::signed;
 use rules::Refusal;
 ghost use mathlib.Core.Path.{_≡_};
-ghost use mathlib.Core.List.{[], _∷_, map};
+ghost use mathlib.Core.List.{[], map};
 ghost use Prim.Native.Nat.{_+_, _*_, _≤_, _<_};
 ghost use lib.ListN.{length, getD, drop};
 ghost use lib.IntN.{pos, natAbs};
 ghost use lib.Signed.{_≤ℤ_};
 ghost use Rattle.exact.specs.Lists.{sum, smallest};
 ghost use Rattle.exact.specs.Fractions.{reduced};
-ghost use Rattle.rules.specs.Plan.{plan, columns, level, entry, everyRun, mostRuns, highestLevel};
-ghost use Rattle.rules.specs.Refusals.{refusal, ofPlan, badSize, badSet};
-ghost use Rattle.plan.specs.Good.{Good, Sound};
+ghost use Rattle.rules.specs.Plan.{plan, level, entry, mostRuns, highestLevel};
+ghost use Rattle.rules.specs.Refusals.{refusal, orElse};
+ghost use Rattle.plan.specs.Good.{Sound};
 ghost use Rattle.words.specs.Words.{wordOf};
 ghost use Rattle.counts.specs.Parts.{counted, OnlyWord};
 ghost use Rattle.projections.specs.Given.{Projection, Starts, Tabled, SomeColumns, productOf, pairOf, overPairs};
-ghost use Rattle.projections.specs.Projections.{relativeOf, valueIn};
+ghost use Rattle.projections.specs.Projections.{relativeOf, valueIn, setWordChecks, setWordBeside};
 
 // Up to so many columns there is a counter for every combination.
 const MOST_COUNTED: usize = 4;
@@ -134,24 +135,42 @@ fn word_in_walk(
     counts::parts::word(levels, table, runs, columns, counters)
 }
 
-// W(I) of every run of a plan, by the engine that is named.
-pub(crate) fn set_word_of_plan(
-    levels: &[u8],
-    table: &[u8],
-    columns: &[usize],
-    engine: Engine,
-) -> i64
-    requires { ⌜ Good (plan (now levels) (now table))
+// W(I) of the runs, by the engine that is named.
+fn word_by(levels: &[u8], table: &[u8], runs: &[usize], columns: &[usize], engine: Engine) -> i64
+    requires { ⌜ Sound (plan (now levels) (now table)) (now runs)
         × (Projection (plan (now levels) (now table)) (now columns) × (length (now columns) ≤ 4)) ⌝ }
-    ensures { λ r. ⌜ (let p = plan (now (levels .entry)) (now (table .entry)) in r ≡ wordOf (level p) (entry p) (everyRun p) (now (columns .entry))) ⌝ }
+    ensures { λ r. ⌜ (let p = plan (now (levels .entry)) (now (table .entry)) in
+        r ≡ wordOf (level p) (entry p) (now (runs .entry)) (now (columns .entry))) ⌝ }
 {
-    let n = table.len() / levels.len();
-    let numbers = plan::inner::every_run(n);
-    let runs = &numbers[..n];
     match engine {
         Engine::Pairs => word_by_pairs(levels, table, runs, columns),
         Engine::Counts => word_by_counts(levels, table, runs, columns),
         Engine::Faster => set_word(levels, table, runs, columns),
+    }
+}
+
+// The answer for a set of f columns and some runs of a plan, behind the refusal that the call begins with: 6 and 8, of the set.
+pub fn set_word_answer(
+    refused: Refusal,
+    levels: &[u8],
+    table: &[u8],
+    runs: &[usize],
+    f: usize,
+    columns: &[usize],
+    engine: Engine,
+) -> SetWordAnswer
+    requires { ⌜ (refused .number ≡ 0 → Sound (plan (now levels) (now table)) (now runs)) ⌝ }
+    ensures { λ r. ⌜ (let p = plan (now (levels .entry)) (now (table .entry)) in
+        let I = now (columns .entry) in
+        r ≡ setWordBeside p (now (runs .entry)) (orElse refused (refusal (setWordChecks p f I))) I) ⌝ }
+{
+    let refused = refused.or_else(sets::inner::check_set(levels.len(), f, columns));
+    if refused.number != 0 {
+        return SetWordAnswer { refused, word: 0 };
+    }
+    SetWordAnswer {
+        refused,
+        word: word_by(levels, table, runs, columns, engine),
     }
 }
 
@@ -257,42 +276,4 @@ pub fn ratio(
         return over(word, runs.len(), lowest - 1);
     }
     Fraction { num: 0, den: 1 }
-}
-
-// Refusals 1 to 5, of the plan, and 6, of the projection size.
-pub fn check_size(levels: &[u8], table: &[u8], f: usize) -> Refusal
-    ensures { λ r. ⌜ (let p = plan (now (levels .entry)) (now (table .entry)) in r ≡ refusal (ofPlan p (badSize (columns p) f ∷ []))) ⌝ }
-{
-    let refused = plan::check(levels, table);
-    if refused.number != 0 {
-        return refused;
-    }
-    if f < 1 {
-        return Refusal::plain(6);
-    }
-    if 4 < f {
-        return Refusal::plain(6);
-    }
-    if levels.len() < f {
-        return Refusal::plain(6);
-    }
-    refused
-}
-
-// Refusals 1 to 5, 6, and 8, of the set.
-pub(crate) fn check_set(levels: &[u8], table: &[u8], f: usize, set: &[usize]) -> Refusal
-    ensures { λ r. ⌜ (let p = plan (now (levels .entry)) (now (table .entry)) in
-        r ≡ refusal (ofPlan p (badSize (columns p) f ∷ badSet (columns p) f (now (set .entry)) ∷ []))) ⌝ }
-{
-    let refused = check_size(levels, table, f);
-    if refused.number != 0 {
-        return refused;
-    }
-    if set.len() != f {
-        return Refusal::plain(8);
-    }
-    if !sets::inner::is_set(levels.len(), set) {
-        return Refusal::plain(8);
-    }
-    refused
 }

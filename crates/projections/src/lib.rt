@@ -31,14 +31,18 @@ pub fn set_word_by(
     ensures { λ r. ⌜ (let p = plan (now (levels .entry)) (now (table .entry)) in
         r ≡ setWordAnswer p (everyRun p) (ofPlan p) f (now (columns .entry))) ⌝ }
 {
-    let refused = inner::check_set(levels, table, f, columns);
-    if refused.number != 0 {
-        return SetWordAnswer { refused, word: 0 };
-    }
-    SetWordAnswer {
-        refused,
-        word: inner::set_word_of_plan(levels, table, columns, engine),
-    }
+    let checked = plan::inner::checked_runs(levels, table);
+    let runs = checked.runs;
+    let count = checked.count;
+    inner::set_word_answer(
+        checked.refused,
+        levels,
+        table,
+        &runs[..count],
+        f,
+        columns,
+        engine,
+    )
 }
 
 // W(I) of a set of f columns.

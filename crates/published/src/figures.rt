@@ -3,6 +3,7 @@ use crate::lines::field;
 use crate::lines::line;
 use crate::lines::put;
 use crate::lines::refusal_line;
+use exact::fractions::Fraction;
 use resolution::Figure;
 
 pub(crate) fn generalized(levels: &[u8], table: &[u8]) {
@@ -16,7 +17,7 @@ pub(crate) fn generalized(levels: &[u8], table: &[u8]) {
         refusal_line(refused);
         return;
     }
-    let ratio = answer.ratio;
+    let ratio: Fraction = answer.ratio;
     let numbers = [
         answer.resolution as u64,
         ratio.num,

@@ -4,6 +4,7 @@ use mathlib.Core.List.{List, [], _∷_, _++_, map}
 use Prim.Native.Nat.{ℕ}
 use lib.ListN.{getD, replicate}
 use Rattle.exact.specs.Fractions.{gcd, reduced, smallerFraction}
+use Rattle.best.specs.Best.{best}
 use Rattle.rules.specs.Refusals.{accepted, plain, firstBadLevel, firstBadEntry}
 use Rattle.words.specs.Words.{score, wordOf, word}
 use Rattle.counts.specs.Counts.{even, balanced, strength}
@@ -56,7 +57,7 @@ figures =
 
 pub listed : map (λ f. listing (f .text)) figures ≡ map (λ f. f .listed) figures
 unfolding listing planListing countLines wordFraction gcd reduced smallerFraction firstBadLevel firstBadEntry score wordOf word even
-    balanced strength relativeOf A pattern comparePatterns resolution largestRatio greatest rootOf advice decimal malformedLine planOf
+    balanced strength relativeOf A pattern comparePatterns resolution largestRatio greatest rootOf best advice decimal malformedLine planOf
 listed = refl
 
 example-listed : listing example ≡ exampleListing

@@ -3,14 +3,14 @@ use mathlib.Core.Bool.{cond}
 use mathlib.Core.List.{List, [], _∷_, _++_}
 use Prim.Native.Nat.{ℕ, _*_}
 use lib.Dec.{ltb}
-use lib.IntN.{ℤ, pos, natAbs, negℤ}
+use lib.IntN.{ℤ, pos, natAbs}
 use lib.ListN.{length}
 use Rattle.exact.specs.Lists.{from, each, into}
 use Rattle.exact.specs.Fractions.{reduced}
 use Rattle.exact.specs.declared.fractions.Fraction.{Fraction}
 use Rattle.rules.specs.declared.Refusal.{Refusal}
 use Rattle.rules.specs.Plan.{Plan, columns, runs, level, entry, everyColumn, everyRun}
-use Rattle.rules.specs.Refusals.{Check, refusal, refuses, unless, tooLong, malformed, planChecks, badRoom}
+use Rattle.rules.specs.Refusals.{Check, refusal, unless, numberOr, tooLong, malformed, planChecks, badRoom}
 use Rattle.words.specs.Words.{word}
 use Rattle.counts.specs.Counts.{strength}
 use Rattle.resolution.specs.Resolution.{resolutionIn, ratioIn, thousandthsOf}
@@ -101,4 +101,4 @@ listingRoom text room = unless (roomRefusal text room) room (into (listing text)
 -- what a C program gets: the number of bytes, or the refusal number negated
 unfoldable pub plannerListing : List ℕ → List ℕ → ℤ
 plannerListing text room =
-    let a = listingAnswer text room in cond (refuses (a .refused)) (negℤ (pos (a .refused .number))) (pos (a .bytes))
+    let a = listingAnswer text room in numberOr (a .refused) (pos (a .bytes))

@@ -3,6 +3,7 @@ use exact::fractions::reduced;
 use exact::signed;
 use resolution::GeneralizedAnswer;
 use resolution::answers::generalized_of;
+use resolution::inner::rate_answer;
 use rules::Refusal;
 use rules::sizes::MOST_COLUMNS;
 use text::inner::write_number;
@@ -162,7 +163,8 @@ fn write_plan(levels: &[u8], table: &[u8], room: &mut [u8]) -> usize
     let n = table.len() / levels.len();
     let every = plan::inner::every_run(n);
     let runs = &every[..n];
-    let rating = generalized_of(resolution::inner::rate(levels, table, runs, &words, 0));
+    let refused = Refusal::accepted();
+    let rating = generalized_of(rate_answer(refused, levels, table, runs, &words, 0));
     let counted = write_counts(levels, table, runs, &words, room);
     let rated = write_resolution(rating, room, counted);
     write_advice(levels, table, runs, room, rated)

@@ -1,44 +1,71 @@
--- The answers that are made of a rating are those of the definitions, whatever checks stand before.
-use mathlib.Core.Path.{_≡_, refl, sym, ap}
+-- The answers that are made of a rating, or of words, behind the refusal r that a call begins with: they are those of the definitions.
+use mathlib.Core.Path.{_≡_, refl, sym, _∙_, ap}
 use mathlib.Core.Bool.{Bool, true, false, cond}
-use mathlib.Core.List.{List, _∷_}
-use Prim.Native.Nat.{ℕ}
+use mathlib.Core.List.{List, [], _∷_}
+use Prim.Native.Nat.{ℕ, _≤_}
+use native.Mathlib.Decide.{ℕ-discrete}
+use borrow.Author.Tests.{lt-ltb, eq-eqb, ne-eqb}
+use lib.IntN.{ℤ}
 use Rattle.rules.specs.Plan.{Plan, columns}
-use Rattle.rules.specs.Refusals.{Check, refusal, refuses, unless, badPlace}
+use Rattle.rules.specs.Refusals.{Check, refusal, refuses, unless, orElse, noResolution}
 use Rattle.rules.specs.declared.Refusal.{Refusal}
 use Rattle.resolution.specs.Resolution.{resolutionIn, resolutionChecks, resolutionAnswer, generalizedAnswer}
-use Rattle.resolution.specs.Charts.{chartOf, chartAnswer, figureAnswer}
-use Rattle.resolution.specs.Given.{refusing, measures, ratingOf, generalizedFrom, chartFrom, figureFrom, resolutionFrom}
+use Rattle.resolution.specs.Charts.{chartOf, chartAnswer, columnChecks, figureAnswer}
+use Rattle.resolution.specs.Given.{Measured, firstAbove, refusing, measures, measuresBeside, ratingBeside}
+use Rattle.resolution.specs.Given.{generalizedFrom, chartFrom, figureFrom, resolutionFrom}
 use Rattle.resolution.specs.declared.inner.Rating.{Rating}
+use Rattle.resolution.specs.declared.ResolutionAnswer.{ResolutionAnswer}
+use Rattle.resolution.proofs.Rated.{found}
 
 module _ {B : Type 0} (from : Rating → B) (p : Plan) (rs : List ℕ) (i : ℕ) where
   -- an answer that is blank in a refusal is that of the measures
-  of-measures : ((r : Refusal) → refuses r ≡ true → from (refusing r) ≡ from (measures p rs i r)) → (start : List Check → List Check) →
-      from (ratingOf p rs start i) ≡ from (measures p rs i (refusal (start (resolutionChecks p rs))))
-  unfolding ratingOf
-  of-measures blank start = go (refuses r) refl
+  of-measures : ((r : Refusal) → refuses r ≡ true → from (refusing r) ≡ from (measures p rs i r)) → {q r : Refusal} → q ≡ r →
+      from (measuresBeside p rs i q) ≡ from (measures p rs i r)
+  unfolding measuresBeside
+  of-measures blank {q} {r} e = ap (λ q. from (measuresBeside p rs i q)) e ∙ go (refuses r) refl
     where
-      r : Refusal
-      r = refusal (start (resolutionChecks p rs))
-
       go : (b : Bool) → refuses r ≡ b → from (cond b (refusing r) (measures p rs i r)) ≡ from (measures p rs i r)
       go true e = blank r e
       go false e = refl
 
-module _ (p : Plan) (rs : List ℕ) (start : List Check → List Check) where
-  pub generalized-is : (i : ℕ) → generalizedFrom (ratingOf p rs start i) ≡ generalizedAnswer p rs start
-  unfolding generalizedAnswer
-  generalized-is i = of-measures generalizedFrom p rs i (λ r e. rw e) start
+-- every accepted plan has a column 0, so that an answer that names no column may ask for that one
+column-zero : (p : Plan) (rs : List ℕ) (r : Refusal) → (r .number ≡ 0 → 1 ≤ columns p) →
+    orElse r (refusal (columnChecks p rs 0)) ≡ orElse r (refusal (resolutionChecks p rs))
+column-zero p rs r some = go (ℕ-discrete (r .number) 0)
+  where
+    go : Dec (r .number ≡ 0) → orElse r (refusal (columnChecks p rs 0)) ≡ orElse r (refusal (resolutionChecks p rs))
+    go (yes z) = rw (eq-eqb (r .number) 0 z, lt-ltb 0 (columns p) (some z))
+    go (no n) = rw (ne-eqb (r .number) 0 n)
 
-  pub chart-is : (i : ℕ) → chartFrom (ratingOf p rs start i) ≡ chartAnswer p rs start
-  unfolding chartAnswer chartOf
-  chart-is i = of-measures chartFrom p rs i (λ r e. rw e) start
-
-  pub figure-is : (i : ℕ) → figureFrom (ratingOf p rs (λ checks. start (badPlace (columns p) i ∷ checks)) i) ≡ figureAnswer p rs start i
+-- the checks of the call, which `start` puts before its own, begin with the refusal r
+module _ (p : Plan) (rs : List ℕ) (start : List Check → List Check) (r : Refusal) where
+  pub figure-answered : (i : ℕ) → refusal (start (columnChecks p rs i)) ≡ orElse r (refusal (columnChecks p rs i)) →
+      figureFrom (ratingBeside p rs r i) ≡ figureAnswer p rs start i
   unfolding figureAnswer
-  figure-is i = of-measures figureFrom p rs i (λ r e. rw e) (λ checks. start (badPlace (columns p) i ∷ checks))
+  figure-answered i begins = of-measures figureFrom p rs i (λ r e. rw e) (sym begins)
 
-  pub resolution-answered : refusal (start (resolutionChecks p rs)) ≡ refusal (resolutionChecks p rs) →
-      resolutionFrom (columns p) (resolutionIn p rs) ≡ resolutionAnswer p rs start
-  unfolding resolutionAnswer
-  resolution-answered e = ap (λ (r : Refusal). record { refused = r; resolution = unless r 0 (resolutionIn p rs) }) (sym e)
+  module _ (begins : refusal (start (resolutionChecks p rs)) ≡ orElse r (refusal (resolutionChecks p rs))) where
+    module _ (some : r .number ≡ 0 → 1 ≤ columns p) where
+      pub generalized-answered : generalizedFrom (ratingBeside p rs r 0) ≡ generalizedAnswer p rs start
+      unfolding generalizedAnswer
+      generalized-answered = of-measures generalizedFrom p rs 0 (λ r e. rw e) (column-zero p rs r some ∙ sym begins)
+
+      pub chart-answered : chartFrom (ratingBeside p rs r 0) ≡ chartAnswer p rs start
+      unfolding chartAnswer chartOf
+      chart-answered = of-measures chartFrom p rs 0 (λ r e. rw e) (column-zero p rs r some ∙ sym begins)
+
+    abbrev beside : Refusal → ℕ → ResolutionAnswer
+    beside q R = record { refused = q; resolution = unless q 0 R }
+
+    abbrev behind : ℕ → ResolutionAnswer
+    behind R = beside (orElse r (refusal (noResolution (columns p) R ∷ []))) R
+
+    -- where r refuses no R is looked at, and else it is that of the words
+    pub resolution-answered : (words : List ℤ) → (r .number ≡ 0 → Measured p rs words) → resolutionFrom r words (columns p) ≡ resolutionAnswer p rs start
+    unfolding resolutionAnswer
+    resolution-answered words measured =
+        go (ℕ-discrete (r .number) 0) ∙ ap (λ q. beside q (resolutionIn p rs)) (sym begins)
+      where
+        go : Dec (r .number ≡ 0) → behind (firstAbove words (columns p)) ≡ behind (resolutionIn p rs)
+        go (yes z) = ap behind (found p rs words (measured z) (firstAbove words (columns p)) refl)
+        go (no n) = rw (ne-eqb (r .number) 0 n, ne-eqb (r .number) 0 n)

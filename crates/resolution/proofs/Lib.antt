@@ -8,5 +8,5 @@ pub mod Walk
 pub mod Rated
 pub mod Answered
 pub mod OneLevel
-pub mod Planned
+pub mod WholePlan
 pub mod Figures

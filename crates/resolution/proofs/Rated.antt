@@ -1,17 +1,18 @@
 -- A rating of some runs by the check 11, what the routine finds of it, and that its numbers are small.
-use mathlib.Core.Path.{_≡_, refl, sym, _∙_, ap, subst}
+use mathlib.Core.Path.{_≡_, refl, sym, _∙_, ap}
+use mathlib.Core.Bool.{Bool, true, false, cond}
 use mathlib.Core.List.{List}
 use Prim.Native.Nat.{ℕ, _+_, _*_, _≤_, _<_, _^_}
-use native.Mathlib.Decide.{decLe}
+use native.Mathlib.Decide.{decLe, ℕ-discrete}
 use native.Mathlib.Omega.{arith}
-use borrow.Author.Tests.{lt-ltb, le-ltb, le-leb, lt-leb}
+use borrow.Author.Tests.{lt-ltb, le-ltb, le-leb, lt-leb, ne-eqb}
 use lib.IntN.{ℤ, natAbs}
 use lib.ListN.{length}
 use Rattle.exact.specs.Lists.{keep, holds}
-use Rattle.exact.proofs.Numbers.{mul-below}
+use Rattle.exact.proofs.Numbers.{length-from, mul-below}
 use Rattle.exact.proofs.Members.{keep-mem}
 use Rattle.rules.specs.Plan.{Plan, columns, level, entry, everyColumn, mostColumns, mostRuns}
-use Rattle.rules.specs.Refusals.{plain, accepted}
+use Rattle.rules.specs.Refusals.{refusal, refuses, orElse, plain, accepted}
 use Rattle.rules.specs.declared.Refusal.{Refusal}
 use Rattle.sets.specs.Sets.{setsOf}
 use Rattle.sets.proofs.Parts.{part-all}
@@ -21,9 +22,9 @@ use Rattle.words.proofs.OfPlan.{word-small, word-none}
 use Rattle.words.proofs.Answered.{word-at}
 use Rattle.projections.specs.Given.{Tabled}
 use Rattle.projections.proofs.Products.{part-projection}
-use Rattle.resolution.specs.Resolution.{resolutionIn, ratioIn, largestRatio}
-use Rattle.resolution.specs.Charts.{columnRatio}
-use Rattle.resolution.specs.Given.{Measured, wordIn, firstAbove, ratiosOf, refusing, measures, ratingOf, Small}
+use Rattle.resolution.specs.Resolution.{resolutionIn, ratioIn, resolutionChecks, largestRatio}
+use Rattle.resolution.specs.Charts.{columnRatio, columnChecks}
+use Rattle.resolution.specs.Given.{Measured, wordIn, firstAbove, ratiosOf, refusing, measures, measuresBeside, ratingBeside, Small}
 use Rattle.resolution.proofs.Resolved.{resolution-is, resolution-words}
 use Rattle.resolution.proofs.Walk.{ratios-small}
 use Rattle.resolution.proofs.AtMostOne.{ratio-at-most-one}
@@ -40,7 +41,7 @@ word-read p rs h j l = go (decLe j mostColumns)
     go (yes k) = rw (le-leb j mostColumns k) (word-at p rs j l k)
     go (no k) = rw (lt-leb j mostColumns (omega arith)) (sym (word-none p rs j (omega arith)))
 
-pub refusing-small : (r : Refusal) → Small (refusing r)
+refusing-small : (r : Refusal) → Small (refusing r)
 refusing-small r = record {
   length = omega arith;
   at-most-one = omega arith;
@@ -56,14 +57,14 @@ refusing-small r = record {
 
 module _ (p : Plan) (rs : List ℕ) (i : ℕ) where
   abbrev pub own : Rating
-  own = ratingOf p rs (λ checks. checks) i
+  own = measuresBeside p rs i (refusal (resolutionChecks p rs))
 
   pub rating-none : columns p < resolutionIn p rs → refusing (plain 11) ≡ own
-  unfolding ratingOf
+  unfolding measuresBeside
   rating-none h = rw (lt-ltb (columns p) (resolutionIn p rs) h)
 
   rating-is : resolutionIn p rs ≤ columns p → measures p rs i accepted ≡ own
-  unfolding ratingOf
+  unfolding measuresBeside
   rating-is h = rw (le-ltb (columns p) (resolutionIn p rs) h)
 
   -- the ratios of the sets of R columns
@@ -113,15 +114,15 @@ module _ (p : Plan) (rs : List ℕ) (i : ℕ) (G : Tabled p rs) where
   word-exact : (j : ℕ) → natAbs (word (level p) (entry p) rs (everyColumn p) j) ≤ 2 ^ 53
   word-exact j = omega (arith, word-small p rs (G .sound) j)
 
-  measures-small : resolutionIn p rs ≤ columns p → Small (measures p rs i accepted)
+  measures-small : (r : Refusal) → Small (measures p rs i r)
   unfolding largestRatio columnRatio
-  measures-small h =
+  measures-small r =
       let K = part-projection p (G .sound .level-low) (G .sound .small) (everyColumn p) (part-all (everyColumn p)) in
       let small = ratios-small p rs (everyColumn p) G K (resolutionIn p rs) low in
       let L = small (setsOf (columns p) (resolutionIn p rs)) (λ I m. m) in
       let H = small (keep (holds i) (setsOf (columns p) (resolutionIn p rs))) (λ I m. keep-mem (holds i) _ I m) in
       record {
-        length = omega (arith, G .sound .columns-high);
+        length = omega (arith, G .sound .columns-high, resolution-is (level p) (entry p) rs (everyColumn p) .high, length-from 0 (columns p));
         at-most-one = ratio-at-most-one p rs (G .sound);
         short = L .0 .short;
         held-num = H .1;
@@ -131,9 +132,19 @@ module _ (p : Plan) (rs : List ℕ) (i : ℕ) (G : Tabled p rs) where
         pairs = omega (arith, mul-below (length rs) (length rs) mostRuns mostRuns (G .sound .few) (G .sound .few));
       }
 
-  pub rating-small : Small (own p rs i)
-  rating-small = go (decLe (resolutionIn p rs) (columns p))
+  beside-small : (r : Refusal) → Small (measuresBeside p rs i r)
+  unfolding measuresBeside
+  beside-small r = go (refuses r)
     where
-      go : Dec (resolutionIn p rs ≤ columns p) → Small (own p rs i)
-      go (no h) = subst Small (rating-none p rs i (omega arith)) (refusing-small (plain 11))
-      go (yes h) = subst Small (rating-is p rs i h) (measures-small h)
+      go : (b : Bool) → Small (cond b (refusing r) (measures p rs i r))
+      go true = refusing-small r
+      go false = measures-small r
+
+-- behind the refusal r that the call begins with
+pub rating-small : (p : Plan) (rs : List ℕ) (r : Refusal) (i : ℕ) → (r .number ≡ 0 → Tabled p rs) → Small (ratingBeside p rs r i)
+unfolding measuresBeside
+rating-small p rs r i tabled = go (ℕ-discrete (r .number) 0)
+  where
+    go : Dec (r .number ≡ 0) → Small (ratingBeside p rs r i)
+    go (yes z) = beside-small p rs i (tabled z) (orElse r (refusal (columnChecks p rs i)))
+    go (no n) = rw (ne-eqb (r .number) 0 n, ne-eqb (r .number) 0 n) (refusing-small r)

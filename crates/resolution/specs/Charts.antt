@@ -57,8 +57,10 @@ module _ (p : Plan) (rs : List ℕ) where
   unfoldable pub columnRatio : ℕ → Fraction
   columnRatio i = greatest (map (relativeOf (level p) (entry p) rs) (keep (holds i) (choose (resolutionIn p rs) (everyColumn p))))
 
+  -- an answer for column i asks that it is one
+  abbrev pub columnChecks : ℕ → List Check
+  columnChecks i = badPlace (columns p) i ∷ resolutionChecks p rs
+
   -- column i's figure
   unfoldable pub figureAnswer : (List Check → List Check) → ℕ → FigureAnswer
-  figureAnswer start i =
-      let r = refusal (start (badPlace (columns p) i ∷ resolutionChecks p rs)) in
-      record { refused = r; figure = unless r Clear (figureOf (columnRatio i)) }
+  figureAnswer start i = let r = refusal (start (columnChecks i)) in record { refused = r; figure = unless r Clear (figureOf (columnRatio i)) }

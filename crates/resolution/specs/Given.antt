@@ -10,14 +10,14 @@ use lib.ListN.{length, getD}
 use Rattle.exact.specs.Lists.{keep, holds, first}
 use Rattle.exact.specs.declared.fractions.Fraction.{Fraction}
 use Rattle.rules.specs.Plan.{Plan, columns, level, entry, everyColumn, mostColumns}
-use Rattle.rules.specs.Refusals.{Check, refusal, unless, noResolution, badPlace, ofPlan}
+use Rattle.rules.specs.Refusals.{refusal, unless, orElse, noResolution}
 use Rattle.rules.specs.declared.Refusal.{Refusal}
 use Rattle.words.specs.Words.{word}
 use Rattle.words.specs.Answers.{wordList}
 use Rattle.projections.specs.Given.{Tabled}
 use Rattle.projections.specs.Projections.{relativeOf}
-use Rattle.resolution.specs.Resolution.{greatest, resolutionIn, ratioIn, resolutionChecks, thousandthsOf}
-use Rattle.resolution.specs.Charts.{quotient, zeroFigure, zeroChart, figureOf, columnRatio}
+use Rattle.resolution.specs.Resolution.{greatest, resolutionIn, ratioIn, thousandthsOf}
+use Rattle.resolution.specs.Charts.{quotient, zeroFigure, zeroChart, figureOf, columnRatio, columnChecks}
 use Rattle.resolution.specs.declared.ResolutionAnswer.{ResolutionAnswer}
 use Rattle.resolution.specs.declared.GeneralizedAnswer.{GeneralizedAnswer}
 use Rattle.resolution.specs.declared.Chart.{Chart}
@@ -73,16 +73,17 @@ module _ (p : Plan) (rs : List ℕ) where
     held = columnRatio p rs i;
   }
 
-  unfoldable pub ratingOf : (List Check → List Check) → ℕ → Rating
-  ratingOf start i = let r = refusal (start (resolutionChecks p rs)) in unless r (refusing r) (measures i r)
+  -- the refusal, and beside it the measures
+  unfoldable pub measuresBeside : ℕ → Refusal → Rating
+  measuresBeside i r = unless r (refusing r) (measures i r)
 
--- a call on levels, a table and a column: the checks of the plan and of the column, then its own
-abbrev pub ofColumn : Plan → ℕ → List Check → List Check
-ofColumn p i checks = ofPlan p (badPlace (columns p) i ∷ checks)
+  -- the same, where a call begins with a refusal: then come the checks of column i
+  abbrev pub ratingBeside : Refusal → ℕ → Rating
+  ratingBeside refused i = measuresBeside i (orElse refused (refusal (columnChecks p rs i)))
 
 -- numbers of which GR and the chart figures are made without loss
 pub record Small (x : Rating) : Type 0 where
-  pub length : x .resolution ≤ mostColumns
+  pub length : x .resolution ≤ mostColumns + 1
   pub at-most-one : x .largest .num ≤ x .largest .den
   pub short : x .largest .den < 2 ^ 32
   pub held-num : x .held .num ≤ 2 ^ 53
@@ -115,6 +116,9 @@ chartFrom x = record { refused = x .refused; chart = unless (x .refused) zeroCha
 abbrev pub figureFrom : Rating → FigureAnswer
 figureFrom x = record { refused = x .refused; figure = unless (x .refused) Clear (figureOf (x .held)) }
 
--- the answer for the resolution, of R
-abbrev pub resolutionFrom : ℕ → ℕ → ResolutionAnswer
-resolutionFrom m R = let r = refusal (noResolution m R ∷ []) in record { refused = r; resolution = unless r 0 R }
+-- the answer for the resolution, of m words, where a call begins with a refusal
+abbrev pub resolutionFrom : Refusal → List ℤ → ℕ → ResolutionAnswer
+resolutionFrom refused words m =
+    let R = firstAbove words m in
+    let r = orElse refused (refusal (noResolution m R ∷ [])) in
+    record { refused = r; resolution = unless r 0 R }

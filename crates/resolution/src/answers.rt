@@ -1,4 +1,4 @@
-// For our own crates: each answer, of a rating.
+// For our own crates: each answer, of a rating; that for the resolution alone, of the words.
 use crate::Chart;
 use crate::ChartAnswer;
 use crate::Figure;
@@ -6,6 +6,7 @@ use crate::FigureAnswer;
 use crate::GeneralizedAnswer;
 use crate::ResolutionAnswer;
 use crate::inner::Rating;
+use crate::inner::resolution;
 use crate::numbers::quotient;
 use crate::numbers::ratio_figure;
 use crate::numbers::root;
@@ -13,6 +14,8 @@ use exact::fractions::Fraction;
 use exact::signed;
 use rules::Refusal;
 ghost use mathlib.Core.Path.{_≡_};
+ghost use Prim.Native.Nat.{_≤_};
+ghost use Rattle.rules.specs.Plan.{mostColumns};
 ghost use Rattle.resolution.specs.Given.{
   Small,
   resolutionFrom,
@@ -22,11 +25,19 @@ ghost use Rattle.resolution.specs.Given.{
   figureFrom,
 };
 
-// R of a plan of m columns, and m + 1 where it has none, which is refusal 11.
-pub fn resolution_of(m: usize, resolution: usize) -> ResolutionAnswer
-    ensures { λ r. ⌜ r ≡ resolutionFrom m resolution ⌝ }
+// R of a plan of m columns, whose words these are, behind the refusal that the call begins with; 11 where it has none.
+pub fn resolution_answer(refused: Refusal, words: &[i64; 24], m: usize) -> ResolutionAnswer
+    requires { ⌜ (refused .number ≡ 0 → m ≤ mostColumns) ⌝ }
+    ensures { λ r. ⌜ r ≡ resolutionFrom refused (now (words .entry)) m ⌝ }
 {
-    if m < resolution {
+    if refused.number != 0 {
+        return ResolutionAnswer {
+            refused,
+            resolution: 0,
+        };
+    }
+    let size = resolution(words, m);
+    if m < size {
         return ResolutionAnswer {
             refused: Refusal::plain(11),
             resolution: 0,
@@ -34,7 +45,7 @@ pub fn resolution_of(m: usize, resolution: usize) -> ResolutionAnswer
     }
     ResolutionAnswer {
         refused: Refusal::accepted(),
-        resolution,
+        resolution: size,
     }
 }
 

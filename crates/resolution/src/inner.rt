@@ -15,11 +15,12 @@ ghost use lib.ListN.{length};
 ghost use Rattle.exact.specs.Fractions.{ShortDenominator};
 ghost use Rattle.exact.specs.Lists.{holds};
 ghost use Rattle.rules.specs.Plan.{plan, columns, level, entry, everyRun, everyColumn, mostColumns};
+ghost use Rattle.rules.specs.Refusals.{refusal, planChecks};
 ghost use Rattle.sets.specs.Sets.{choose, setsOf};
 ghost use Rattle.counts.specs.Parts.{NoneShorter};
 ghost use Rattle.projections.specs.Given.{Projection, Tabled};
-ghost use Rattle.resolution.specs.Resolution.{greater};
-ghost use Rattle.resolution.specs.Given.{Measured, wordIn, firstAbove, ratiosOf, refusing, ratingOf, ofColumn};
+ghost use Rattle.resolution.specs.Resolution.{greater, resolutionChecks};
+ghost use Rattle.resolution.specs.Given.{Measured, wordIn, firstAbove, ratiosOf, refusing, measuresBeside, ratingBeside};
 
 // The largest ratio of some sets of columns, and that of those among them that hold one column.
 pub struct Ratios {
@@ -40,7 +41,7 @@ pub struct Rating {
 }
 
 // The first length whose word is above zero, and m + 1 where there is none.
-pub fn resolution(words: &[i64; 24], m: usize) -> usize
+pub(crate) fn resolution(words: &[i64; 24], m: usize) -> usize
     requires { ⌜ m ≤ mostColumns ⌝ }
     ensures { λ r. ⌜ r ≡ firstAbove (now (words .entry)) m ⌝ }
 {
@@ -139,7 +140,7 @@ fn word_at(words: &[i64; 24], j: usize) -> i64
 }
 
 // A rating that refuses.
-pub fn refusing(refused: Refusal) -> Rating
+fn refusing(refused: Refusal) -> Rating
     ensures { λ r. ⌜ r ≡ refusing refused ⌝ }
 {
     Rating {
@@ -155,10 +156,11 @@ pub fn refusing(refused: Refusal) -> Rating
 }
 
 // Refusal 11, and beside it the measures of the runs, whose words these are.
-pub fn rate(levels: &[u8], table: &[u8], runs: &[usize], words: &[i64; 24], column: usize) -> Rating
+fn rate(levels: &[u8], table: &[u8], runs: &[usize], words: &[i64; 24], column: usize) -> Rating
     requires { ⌜ Measured (plan (now levels) (now table)) (now runs) (now words) ⌝ }
     ensures { λ r.
-        ⌜ r ≡ ratingOf (plan (now (levels .entry)) (now (table .entry))) (now (runs .entry)) (λ checks. checks) column ⌝ }
+        ⌜ (let p = plan (now (levels .entry)) (now (table .entry)) in let rs = now (runs .entry) in
+        r ≡ measuresBeside p rs column (refusal (resolutionChecks p rs))) ⌝ }
 {
     let m = levels.len();
     let size = resolution(words, m);
@@ -183,21 +185,45 @@ pub fn rate(levels: &[u8], table: &[u8], runs: &[usize], words: &[i64; 24], colu
     }
 }
 
-// The measures of every run of a plan, behind the checks of the plan and of the column.
-pub fn rate_plan(levels: &[u8], table: &[u8], column: usize) -> Rating
+// The same behind the refusal that the call begins with, and refusal 8 of the column.
+pub fn rate_answer(
+    refused: Refusal,
+    levels: &[u8],
+    table: &[u8],
+    runs: &[usize],
+    words: &[i64; 24],
+    column: usize,
+) -> Rating
+    requires { ⌜ (refused .number ≡ 0 → Measured (plan (now levels) (now table)) (now runs) (now words)) ⌝ }
     ensures { λ r.
-        ⌜ (let p = plan (now (levels .entry)) (now (table .entry)) in r ≡ ratingOf p (everyRun p) (ofColumn p column) column) ⌝ }
+        ⌜ r ≡ ratingBeside (plan (now (levels .entry)) (now (table .entry))) (now (runs .entry)) refused column ⌝ }
 {
-    let refused = plan::check(levels, table);
     if refused.number != 0 {
         return refusing(refused);
     }
-    let m = levels.len();
-    if m <= column {
+    if levels.len() <= column {
         return refusing(Refusal::plain(8));
     }
-    let words = words::inner::words_of_plan(levels, table);
-    let n = table.len() / m;
-    let runs = plan::inner::every_run(n);
-    rate(levels, table, &runs[..n], &words, column)
+    rate(levels, table, runs, words, column)
+}
+
+// The rating of every run of a plan, behind its checks.
+pub(crate) fn rate_plan(levels: &[u8], table: &[u8], column: usize) -> Rating
+    ensures { λ r.
+        ⌜ (let p = plan (now (levels .entry)) (now (table .entry)) in
+        r ≡ ratingBeside p (everyRun p) (refusal (planChecks p)) column) ⌝ }
+{
+    let checked = plan::inner::checked_runs(levels, table);
+    let runs = checked.runs;
+    let count = checked.count;
+    let answer = words::words(levels, table);
+    let words = answer.words;
+    rate_answer(
+        checked.refused,
+        levels,
+        table,
+        &runs[..count],
+        &words,
+        column,
+    )
 }

@@ -51,16 +51,9 @@ pub struct FigureAnswer {
 pub fn resolution(levels: &[u8], table: &[u8]) -> ResolutionAnswer
     ensures { λ r. ⌜ (let p = plan (now (levels .entry)) (now (table .entry)) in r ≡ resolutionAnswer p (everyRun p) (ofPlan p)) ⌝ }
 {
-    let refused = plan::check(levels, table);
-    if refused.number != 0 {
-        return ResolutionAnswer {
-            refused,
-            resolution: 0,
-        };
-    }
-    let words = words::inner::words_of_plan(levels, table);
-    let m = levels.len();
-    answers::resolution_of(m, inner::resolution(&words, m))
+    let answer = words::words(levels, table);
+    let words = answer.words;
+    answers::resolution_answer(answer.refused, &words, levels.len())
 }
 
 // R, the largest ratio, and GR in thousandths. No answer but a column's asks for a column; column 0 is one of every accepted plan.

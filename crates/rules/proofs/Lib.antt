@@ -1,2 +1,3 @@
 pub mod Ranges
 pub mod Order
+pub mod Figures

@@ -1,6 +1,6 @@
 -- Document 01, "Refusal numbers": a call is refused by the check that fails and stands first in the order, and by nothing else.
 use mathlib.Core.Path.{_≡_, refl, sym, _∙_, ap, subst, subst⁻¹}
-use mathlib.Core.Bool.{Bool, true, false, cond, _&&_}
+use mathlib.Core.Bool.{Bool, true, false, _&&_}
 use mathlib.Core.Logic.{⊎-elim}
 use mathlib.Core.List.{
   List,
@@ -16,40 +16,16 @@ use mathlib.Core.List.{
   Memᴰ·append-left,
   Memᴰ·append-right,
 }
-use Prim.Native.Nat.{ℕ, suc, _≤_, _<_}
+use Prim.Native.Nat.{ℕ, suc, _≤_}
 use native.Mathlib.Omega.{arith}
 use borrow.Author.Tests.{eqb-true, eqb-false, eq-eqb, ne-eqb}
 use lib.Dec.{T, eqb, ltb, leb, ltb→lt, leb→le}
 use Rattle.exact.specs.Lists.{all, keep, each, holds}
 use Rattle.exact.proofs.Tests.{is-false, false-is, both, all-mem}
 use Rattle.rules.specs.declared.Refusal.{Refusal}
-use Rattle.rules.specs.Refusals.{Check, order, firstFailing, refusal, accepted}
-
-abbrev pub number : Check → ℕ
-number c = c .gives .number
-
--- the place of a number in the order ks
-abbrev pub rank : List ℕ → ℕ → ℕ
-rank [] n = 0
-rank (k ∷ ks) n = cond (eqb n k) 0 (suc (rank ks n))
-
--- of the checks listed before and after c none that fails stands earlier in the order, and none before it has its number
-pub record Leads (ks : List ℕ) (c : Check) (before after : List Check) : Type 0 where
-  pub sooner : (d : Check) → List·Memᴰ d before → T (d .fails) → rank ks (number c) < rank ks (number d)
-  pub later : (d : Check) → List·Memᴰ d after → T (d .fails) → rank ks (number c) ≤ rank ks (number d)
-
--- the check c of the list fails, and leads
-pub record First (ks : List ℕ) (checks : List Check) (c : Check) : Type 0 where
-  pub before : List Check
-  pub after : List Check
-  pub listed : checks ≡ before ++ c ∷ after
-  pub fails : T (c .fails)
-  pub leads : Leads ks c before after
-
--- what a call with these checks answers
-pub data FirstThatApplies (ks : List ℕ) (checks : List Check) : Refusal → Type 0 where
-  none-fails : ((c : Check) → List·Memᴰ c checks → ¬ (T (c .fails))) → FirstThatApplies ks checks accepted
-  fails-first : (c : Check) → First ks checks c → FirstThatApplies ks checks (c .gives)
+use Rattle.rules.specs.Order.{number, rank, Leads, First, FirstThatApplies, none-fails, fails-first}
+use Rattle.rules.specs.Refusals.{Check, order, firstFailing, refusal, accepted, largestNumber, orElse}
+use Rattle.rules.proofs.Ranges.{or-refused, or-accepted}
 
 -- ---- two such answers are equal
 
@@ -214,8 +190,8 @@ tested test (k ∷ ks) checks z a = go (kept k checks (inOrder ks checks)) (both
 pub number-ordered : (checks : List Check) → T (holds (refusal checks .number) (0 ∷ order))
 number-ordered checks = tested (λ n. holds n (0 ∷ order)) order checks tt tt
 
-pub number-most : (checks : List Check) → refusal checks .number ≤ 14
-number-most checks = leb→le (refusal checks .number) 14 (tested (λ n. leb n 14) order checks tt tt)
+pub number-most : (checks : List Check) → refusal checks .number ≤ largestNumber
+number-most checks = leb→le (refusal checks .number) largestNumber (tested (λ n. leb n largestNumber) order checks tt tt)
 
 pub never-twelve : (checks : List Check) → ¬ (refusal checks .number ≡ 12)
 never-twelve checks e = subst (λ n. T (holds n (0 ∷ order))) e (number-ordered checks)
@@ -279,3 +255,11 @@ module _ (ones others : List Check) (turn : T (inTurn ones others)) where
           later = F .leads .later;
         };
       })
+
+  -- what a call answers that asks the first, and the others after them
+  pub or-in-turn : orElse (refusal ones) (refusal others) ≡ refusal (ones ++ others)
+  or-in-turn = go (eqb (refusal ones .number) 0) refl
+    where
+      go : (b : Bool) → eqb (refusal ones .number) 0 ≡ b → orElse (refusal ones) (refusal others) ≡ refusal (ones ++ others)
+      go true e = let z = eqb-true (refusal ones .number) 0 e in or-accepted (refusal ones) (refusal others) z ∙ sym (passed-by-first refl z)
+      go false e = let n = eqb-false (refusal ones .number) 0 e in or-refused (refusal ones) (refusal others) n ∙ sym (refused-by-first refl n)

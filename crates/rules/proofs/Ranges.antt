@@ -1,13 +1,16 @@
--- What the tests of the checks tell: a number that is not outside its range, and what stands beside a refusal.
-use mathlib.Core.Path.{_≡_}
-use mathlib.Core.Bool.{false}
-use Prim.Native.Nat.{ℕ, _≤_}
-use borrow.Author.Tests.{ltb-false, le-ltb, eq-eqb, ne-eqb}
-use lib.Dec.{ltb}
+-- What the tests of the checks tell: a number that is not outside its range, what stands beside a refusal, and a refusal negated.
+use mathlib.Core.Path.{_≡_, refl, sym, _∙_, ap}
+use mathlib.Core.Bool.{Bool, true, false}
+use Prim.Native.Nat.{ℕ, _≤_, _<_, _^_}
+use native.Mathlib.Omega.{arith}
+use lib.IntN.{pos, negℤ, natAbs, _-ℤ_, +ℤ-idl}
+use borrow.Author.Tests.{ltb-false, le-ltb, eq-eqb, ne-eqb, eqb-true, eqb-false}
+use lib.Dec.{eqb, ltb}
 use Rattle.exact.specs.Lists.{outside}
 use Rattle.exact.proofs.Tests.{neither}
+use Rattle.exact.proofs.Order.{natAbs-neg}
 use Rattle.rules.specs.declared.Refusal.{Refusal}
-use Rattle.rules.specs.Refusals.{unless}
+use Rattle.rules.specs.Refusals.{unless, orElse, largestNumber}
 
 pub inside : (low high k : ℕ) → outside low high k ≡ false → (low ≤ k) × (k ≤ high)
 inside low high k e = let (a, b) = neither (ltb k low) (ltb high k) e in (ltb-false k low a, ltb-false high k b)
@@ -21,3 +24,33 @@ module _ {A : Type 0} (r : Refusal) (blank value : A) where
 
   pub unless-accepted : r .number ≡ 0 → unless r blank value ≡ value
   unless-accepted z = rw (eq-eqb (r .number) 0 z)
+
+module _ (r s : Refusal) where
+  pub or-refused : ¬ (r .number ≡ 0) → orElse r s ≡ r
+  or-refused = unless-refused r r s
+
+  pub or-accepted : r .number ≡ 0 → orElse r s ≡ s
+  or-accepted = unless-accepted r r s
+
+  -- where nothing is refused, neither refuses
+  pub or-neither : orElse r s .number ≡ 0 → (r .number ≡ 0) × (s .number ≡ 0)
+  or-neither = go (eqb (r .number) 0) refl
+    where
+      go : (b : Bool) → eqb (r .number) 0 ≡ b → orElse r s .number ≡ 0 → (r .number ≡ 0) × (s .number ≡ 0)
+      go true e z = let a = eqb-true (r .number) 0 e in (a, ap (λ q. q .number) (sym (or-accepted a)) ∙ z)
+      go false e z = let n = eqb-false (r .number) 0 e in absurd (n (ap (λ q. q .number) (sym (or-refused n)) ∙ z))
+
+  pub or-assoc : (t : Refusal) → orElse (orElse r s) t ≡ orElse r (orElse s t)
+  or-assoc t = go (eqb (r .number) 0) refl
+    where
+      go : (b : Bool) → eqb (r .number) 0 ≡ b → orElse (orElse r s) t ≡ orElse r (orElse s t)
+      go true e = rw e
+      go false e = rw (e, e)
+
+-- 0 less a refusal's number is that number negated, and fits
+module _ (n : ℕ) where
+  pub less : pos 0 -ℤ pos n ≡ negℤ (pos n)
+  less = +ℤ-idl (negℤ (pos n))
+
+  pub less-small : n ≤ largestNumber → natAbs (pos 0 -ℤ pos n) < 2 ^ 63
+  less-small h = rw (less, natAbs-neg (pos n)) (omega arith)

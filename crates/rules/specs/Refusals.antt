@@ -3,6 +3,7 @@ use mathlib.Core.Bool.{Bool, cond, not, _&&_, _||_}
 use mathlib.Core.List.{List, [], _∷_, _++_}
 use Prim.Native.Nat.{ℕ, _/_, _%_}
 use lib.Dec.{eqb, ltb}
+use lib.IntN.{ℤ, pos, negℤ}
 use lib.ListN.{length, getD}
 use Rattle.exact.specs.Lists.{all, keep, each, product, rise, outside, first}
 use Rattle.rules.specs.declared.Refusal.{Refusal}
@@ -49,6 +50,18 @@ refusal checks = firstFailing (ordered checks)
 -- what stands beside the refusal: the value, and in a refusal the blank (every number zero, a figure clear)
 abbrev pub unless : {A : Type 0} → Refusal → A → A → A
 unless r blank value = cond (refuses r) blank value
+
+-- the first refusal, and where there is none the second
+abbrev pub orElse : Refusal → Refusal → Refusal
+orElse r s = unless r r s
+
+-- what a C program gets: a number, or the refusal's number negated
+abbrev pub numberOr : Refusal → ℤ → ℤ
+numberOr r value = unless r (negℤ (pos (r .number))) value
+
+-- no refusal has a larger number
+abbrev pub largestNumber : ℕ
+largestNumber = 14
 
 -- ---- the thirteen
 

@@ -1,6 +1,9 @@
 // A refusal: its number and two place numbers (document 01, "Refusal numbers"). Number 0 is no refusal.
+use exact::signed;
 ghost use mathlib.Core.Path.{_≡_};
-ghost use Rattle.rules.specs.Refusals.{accepted, plain, placed};
+ghost use mathlib.Core.List.{[], _∷_};
+ghost use Prim.Native.Nat.{_≤_};
+ghost use Rattle.rules.specs.Refusals.{accepted, plain, placed, refusal, tooFew, orElse, numberOr, largestNumber};
 
 pub mod sizes;
 
@@ -42,5 +45,37 @@ impl Refusal {
             first,
             second,
         }
+    }
+
+    // Refusal 10, where fewer runs stand than a call needs.
+    pub fn too_few(needed: usize, standing: usize) -> Refusal
+        ensures { λ r. ⌜ r ≡ refusal (tooFew needed standing ∷ []) ⌝ }
+    {
+        if standing < needed {
+            return Refusal::plain(10);
+        }
+        Refusal::accepted()
+    }
+
+    // The first refusal, and where there is none the second.
+    pub fn or_else(self, other: Refusal) -> Refusal
+        ensures { λ r. ⌜ r ≡ orElse self other ⌝ }
+    {
+        if self.number != 0 {
+            return self;
+        }
+        other
+    }
+
+    // What a C program gets: a number, or the refusal's number negated.
+    pub fn number_or(self, value: i64) -> i64
+        requires { ⌜ self .number ≤ largestNumber ⌝ }
+        ensures { λ r. ⌜ r ≡ numberOr self value ⌝ }
+    {
+        let number = self.number;
+        if number != 0 {
+            return signed::sub(0, signed::of_u64(number));
+        }
+        value
     }
 }

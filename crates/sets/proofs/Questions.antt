@@ -1,104 +1,91 @@
--- The question's answer, both ways, by its three checks: 1, then 6, then 8.
-use mathlib.Core.Path.{_≡_, refl, sym, _∙_, ap}
-use mathlib.Core.Bool.{Bool, true, false, not, cond, _&&_}
-use mathlib.Core.List.{List, [], _∷_, _++_, List·Memᴰ·head, List·Memᴰ·tail}
+-- The checks of a projection, and the question's answer, both ways, by its three checks: 1, then 6, then 8.
+use mathlib.Core.Path.{_≡_, refl, sym, _∙_, ap, ap₂}
+use mathlib.Core.Bool.{Bool, true, false, _&&_}
+use mathlib.Core.List.{List, [], _∷_, List·Memᴰ, List·Memᴰ·head, List·Memᴰ·tail}
 use Prim.Native.Nat.{ℕ, _≤_, _<_}
 use native.Mathlib.Omega.{arith}
-use borrow.Author.Tests.{ltb-false, lt-ltb, le-ltb, eq-eqb}
-use lib.Dec.{eqb, ltb}
+use borrow.Author.Tests.{ltb-false, lt-ltb, le-ltb}
+use lib.Dec.{T, eqb, eqb→eq, ltb}
 use lib.ListN.{length, getD}
 use Rattle.exact.specs.Lists.{filledTo, outside}
-use Rattle.exact.proofs.Tests.{neither}
+use Rattle.exact.proofs.Tests.{both, neither, true-is, not-true}
 use Rattle.rules.specs.declared.Refusal.{Refusal}
-use Rattle.rules.specs.Refusals.{plain, accepted, unless, refusal, check, badColumns, badSize, isSet}
+use Rattle.rules.specs.Refusals.{Check, plain, accepted, unless, orElse, refusal, check, badColumns, badSize, badSet, badPlace, isSet}
 use Rattle.rules.proofs.Order.{passed-none, none-passed, refused-by-first, passed-by-first}
 use Rattle.rules.proofs.Ranges.{inside, unless-refused}
-use Rattle.sets.specs.declared.Placed.{Placed}
 use Rattle.sets.specs.declared.Chosen.{Chosen}
-use Rattle.sets.specs.Sets.{binom, setsOf, sizeChecks, placeOf, placeAnswer, setAt, setAnswer}
+use Rattle.sets.specs.Sets.{binom, setsOf, sizeChecks, placeChecks, setAt, setAnswer}
 use Rattle.sets.proofs.Pascal.{many-sets}
 use Rattle.sets.proofs.Places.{set-at-set}
 
--- ---- m and f pass
+-- ---- what the checks tell where they pass
 
-module _ (m f : ℕ) (s : Refusal) (e : s ≡ refusal (sizeChecks m f)) (z : s .number ≡ 0) where
-  pub sizes-within : (m ≤ 24) × (f ≤ 4) × (f ≤ m)
-  sizes-within =
-      let a = passed-none (sizeChecks m f) tt e z (badColumns m) (List·Memᴰ·head refl) in
-      let b = passed-none (sizeChecks m f) tt e z (badSize m f) (List·Memᴰ·tail (List·Memᴰ·head refl)) in
-      let (p, q) = neither (outside 1 4 f) (ltb m f) b in
-      (inside 1 24 m a .1, inside 1 4 f p .1, ltb-false m f q)
+module _ (m f : ℕ) where
+  within : badSize m f .fails ≡ false → (1 ≤ f) × (f ≤ 4) × (f ≤ m)
+  within e =
+      let (a, b) = neither (outside 1 4 f) (ltb m f) e in let (low, high) = inside 1 4 f a in (low, high, ltb-false m f b)
 
-  sizes-accepted : s ≡ accepted
-  sizes-accepted = e ∙ none-passed (sizeChecks m f) tt (passed-none (sizeChecks m f) tt e z)
+  module _ {r : Refusal} where
+    pub size-passed : r ≡ refusal (badSize m f ∷ []) → r .number ≡ 0 → (1 ≤ f) × (f ≤ 4) × (f ≤ m)
+    size-passed e z = within (passed-none (badSize m f ∷ []) tt e z (badSize m f) (List·Memᴰ·head refl))
 
--- ---- the three ways to answer, for any answer of a refusal and a value: d is whether the third check fails
+    pub set-passed : (I : List ℕ) → r ≡ refusal (badSize m f ∷ badSet m f I ∷ []) → r .number ≡ 0 → (length I ≤ 4) × T (isSet m I)
+    set-passed I e z =
+        let passes = passed-none (badSize m f ∷ badSet m f I ∷ []) tt e z in
+        let (low, high, wide) = within (passes (badSize m f) (List·Memᴰ·head refl)) in
+        let (n, s) = both (eqb (length I) f) (isSet m I)
+        (true-is _ (not-true (eqb (length I) f && isSet m I) (passes (badSet m f I) (List·Memᴰ·tail (List·Memᴰ·head refl))))) in
+        (omega (arith, eqb→eq (length I) f n), s)
 
-module _ {A X : Type 0} (make : Refusal → X → A) (blank value : X) (m f : ℕ) (d : Bool) where
-  abbrev answered : A
-  answered = let r = refusal (sizeChecks m f ++ check 8 d ∷ []) in make r (unless r blank value)
+    module _ (e : r ≡ refusal (sizeChecks m f)) (z : r .number ≡ 0) where
+      sizes : (c : Check) → List·Memᴰ c (sizeChecks m f) → c .fails ≡ false
+      sizes = passed-none (sizeChecks m f) tt e z
 
-module _ {A X : Type 0} (make : Refusal → X → A) (blank value : X) (m f : ℕ) (d : Bool) (s : Refusal) (e : s ≡ refusal (sizeChecks m f)) where
-  stopped : (s .number ≡ 0 → ⊥) → make s blank ≡ answered make blank value m f d
-  stopped h =
-      ap (make s) (sym (unless-refused s blank value h))
-      ∙ ap (λ r. make r (unless r blank value)) (sym (refused-by-first (sizeChecks m f) (check 8 d ∷ []) tt e h))
+      pub sizes-passed : (m ≤ 24) × (f ≤ 4) × (f ≤ m)
+      sizes-passed =
+          let (low, high, wide) = within (sizes (badSize m f) (List·Memᴰ·tail (List·Memᴰ·head refl))) in
+          (inside 1 24 m (sizes (badColumns m) (List·Memᴰ·head refl)) .1, high, wide)
 
-  abbrev by : Bool → A
-  by b = let r = cond b (plain 8) accepted in make r (unless r blank value)
+      sizes-accepted : r ≡ accepted
+      sizes-accepted = e ∙ none-passed (sizeChecks m f) tt sizes
 
-  third : s .number ≡ 0 → by d ≡ answered make blank value m f d
-  third z = ap (λ r. make r (unless r blank value)) (sym (passed-by-first (sizeChecks m f) (check 8 d ∷ []) tt e z))
+-- ---- the place of a set: refusals 1 and 6, then 6 and 8
 
-  last : s .number ≡ 0 → d ≡ true → make (plain 8) blank ≡ answered make blank value m f d
-  last z h = ap by (sym h) ∙ third z
+pub place-refusal : (m f : ℕ) (I : List ℕ) {q r s : Refusal} → q ≡ orElse r s → r ≡ refusal (sizeChecks m f) →
+    s ≡ refusal (badSize m f ∷ badSet m f I ∷ []) → q ≡ refusal (placeChecks m f I)
+place-refusal m f I e d w = e ∙ ap₂ orElse d w ∙ go (badColumns m .fails) (badSize m f .fails)
+  where
+    go : (a b : Bool) → let d = badSet m f I in
+        orElse (refusal (check 1 a ∷ check 6 b ∷ [])) (refusal (check 6 b ∷ d ∷ [])) ≡ refusal (check 1 a ∷ check 6 b ∷ d ∷ [])
+    go true b = refl
+    go false true = refl
+    go false false = refl
 
-  passed : s .number ≡ 0 → d ≡ false → make s value ≡ answered make blank value m f d
-  passed z h = ap (λ r. make r value) (sizes-accepted m f s e z) ∙ ap by (sym h) ∙ third z
-
--- ---- the place of a set
-
-abbrev pub placed : Refusal → ℕ → Placed
-placed r k = record { refused = r; place = k }
-
-module _ (m f : ℕ) (I : List ℕ) where
-  abbrev wrong : Bool
-  wrong = not (eqb (length I) f && isSet m I)
-
-module _ (m f : ℕ) (I : List ℕ) (s : Refusal) (e : s ≡ refusal (sizeChecks m f)) where
-  pub place-stopped : (s .number ≡ 0 → ⊥) → placed s 0 ≡ placeAnswer m f I
-  unfolding placeAnswer
-  place-stopped h = stopped placed 0 (placeOf m I) m f (wrong m f I) s e h
-
-  pub place-wrong : s .number ≡ 0 → (eqb (length I) f && isSet m I) ≡ false → placed (plain 8) 0 ≡ placeAnswer m f I
-  unfolding placeAnswer
-  place-wrong h d = last placed 0 (placeOf m I) m f (wrong m f I) s e h (ap not d)
-
-  pub place-found : s .number ≡ 0 → length I ≡ f → isSet m I ≡ true → placed s (placeOf m I) ≡ placeAnswer m f I
-  unfolding placeAnswer
-  place-found h l t = passed placed 0 (placeOf m I) m f (wrong m f I) s e h (rw (eq-eqb (length I) f l, t))
-
--- ---- the set at a place
+-- ---- the set at a place: r is what the checks of m and f gave
 
 abbrev pub chosen : Refusal → List ℕ → Chosen
 chosen r I = record { refused = r; columns = filledTo 4 0 I }
 
-module _ (m f k : ℕ) where
-  abbrev past : Bool
-  past = not (ltb k (length (setsOf m f)))
+module _ (m f k : ℕ) {r : Refusal} (e : r ≡ refusal (sizeChecks m f)) where
+  abbrev past : Check
+  past = badPlace (length (setsOf m f)) k
 
-module _ (m f k : ℕ) (s : Refusal) (e : s ≡ refusal (sizeChecks m f)) where
-  pub set-stopped : (s .number ≡ 0 → ⊥) → chosen s [] ≡ setAnswer m f k
-  unfolding setAnswer
-  set-stopped h = stopped chosen [] (setAt m f k) m f (past m f k) s e h
+  abbrev by : Refusal → Chosen
+  by q = chosen q (unless q [] (setAt m f k))
 
-  pub set-past : s .number ≡ 0 → binom m f ≤ k → chosen (plain 8) [] ≡ setAnswer m f k
+  pub set-stopped : ¬ (r .number ≡ 0) → chosen r [] ≡ setAnswer m f k
   unfolding setAnswer
-  set-past h l = last chosen [] (setAt m f k) m f (past m f k) s e h (rw (many-sets f 0 m) (rw (le-ltb k (binom m f) l)))
+  set-stopped n = ap (chosen r) (sym (unless-refused r [] (setAt m f k) n)) ∙ ap by (sym (refused-by-first (sizeChecks m f) (past ∷ []) tt e n))
 
-  pub set-found : s .number ≡ 0 → k < binom m f → chosen s (setAt m f k) ≡ setAnswer m f k
+  third : r .number ≡ 0 → by (refusal (past ∷ [])) ≡ setAnswer m f k
   unfolding setAnswer
-  set-found h l = passed chosen [] (setAt m f k) m f (past m f k) s e h (rw (many-sets f 0 m) (rw (lt-ltb k (binom m f) l)))
+  third z = ap by (sym (passed-by-first (sizeChecks m f) (past ∷ []) tt e z))
+
+  pub set-past : r .number ≡ 0 → binom m f ≤ k → chosen (plain 8) [] ≡ setAnswer m f k
+  set-past z l = rw (many-sets f 0 m, le-ltb k (binom m f) l) at (third z)
+
+  pub set-found : r .number ≡ 0 → k < binom m f → chosen r (setAt m f k) ≡ setAnswer m f k
+  set-found z l = ap (λ q. chosen q (setAt m f k)) (sizes-accepted m f e z) ∙ (rw (many-sets f 0 m, lt-ltb k (binom m f) l) at (third z))
 
 -- a set of at most four columns, taken from a row of 24
 first-four : (I : List ℕ) → length I ≤ 4 →

@@ -1,13 +1,14 @@
-// For our own crates: the place of a set among the sets of its size, whatever the size.
+// For our own crates: the checks of a projection, and the place of a set among the sets of its size, whatever the size.
 use crate::binomials::BINOMIALS;
+use rules::Refusal;
 ghost use mathlib.Core.Path.{_≡_};
-ghost use mathlib.Core.List.{[]};
+ghost use mathlib.Core.List.{[], _∷_};
 ghost use Prim.Native.Nat.{_≤_, _<_};
 ghost use lib.Dec.{T};
 ghost use lib.ListN.{length, getD};
 ghost use Rattle.exact.specs.Lists.{filledTo};
 ghost use Rattle.rules.specs.Plan.{mostColumns};
-ghost use Rattle.rules.specs.Refusals.{isSet};
+ghost use Rattle.rules.specs.Refusals.{refusal, badSize, badSet, isSet};
 ghost use Rattle.sets.specs.Sets.{binom, choose, placeOf, setAt};
 
 // The number of sets of b of a columns.
@@ -37,6 +38,36 @@ pub fn is_set(m: usize, columns: &[usize]) -> bool
         i += 1;
     }
     true
+}
+
+// Refusal 6, of a projection on f of m columns.
+pub fn check_size(m: usize, f: usize) -> Refusal
+    ensures { λ r. ⌜ r ≡ refusal (badSize m f ∷ []) ⌝ }
+{
+    if f < 1 {
+        return Refusal::plain(6);
+    }
+    if 4 < f {
+        return Refusal::plain(6);
+    }
+    if m < f {
+        return Refusal::plain(6);
+    }
+    Refusal::accepted()
+}
+
+// Refusals 6 and 8, of a projection on these f of m columns.
+pub fn check_set(m: usize, f: usize, columns: &[usize]) -> Refusal
+    ensures { λ r. ⌜ r ≡ refusal (badSize m f ∷ badSet m f (now (columns .entry)) ∷ []) ⌝ }
+{
+    let size = check_size(m, f);
+    if columns.len() != f {
+        return size.or_else(Refusal::plain(8));
+    }
+    if !is_set(m, columns) {
+        return size.or_else(Refusal::plain(8));
+    }
+    size
 }
 
 // The place of a set among the sets of its size of m columns. A column that is left out passes the sets that have it.

@@ -30,37 +30,16 @@ fn check_sizes(m: usize, f: usize) -> Refusal
     if MOST_COLUMNS < m {
         return Refusal::plain(1);
     }
-    if f < 1 {
-        return Refusal::plain(6);
-    }
-    if 4 < f {
-        return Refusal::plain(6);
-    }
-    if m < f {
-        return Refusal::plain(6);
-    }
-    Refusal::accepted()
+    inner::check_size(m, f)
 }
 
 // The place of a set of f of m columns, in dictionary order.
 pub fn place(m: usize, f: usize, columns: &[usize]) -> Placed
     ensures { λ r. ⌜ r ≡ placeAnswer m f (now (columns .entry)) ⌝ }
 {
-    let refused = check_sizes(m, f);
+    let refused = check_sizes(m, f).or_else(inner::check_set(m, f, columns));
     if refused.number != 0 {
         return Placed { refused, place: 0 };
-    }
-    if columns.len() != f {
-        return Placed {
-            refused: Refusal::plain(8),
-            place: 0,
-        };
-    }
-    if !inner::is_set(m, columns) {
-        return Placed {
-            refused: Refusal::plain(8),
-            place: 0,
-        };
     }
     Placed {
         refused,

@@ -12,6 +12,7 @@ use Rattle.exact.specs.Lists.{from, keep, holds}
 use Rattle.exact.proofs.Numbers.{mem-from}
 use Rattle.exact.proofs.Tests.{not-true, true-is, both, clash}
 use Rattle.exact.proofs.Members.{holds-mem, keep-mem}
+use Rattle.best.specs.Best.{lowest, best}
 use Rattle.rules.specs.Plan.{Plan, plan, columns, level, entry, everyColumn, mostRuns}
 use Rattle.rules.specs.declared.Refusal.{Refusal}
 use Rattle.rules.proofs.Order.{passed-none}
@@ -27,8 +28,8 @@ use Rattle.frequencies.specs.Frequencies.{Line, Rooms, absoluteTable, relativeT
 use Rattle.projections.specs.declared.SetWordAnswer.{SetWordAnswer}
 use Rattle.resolution.specs.Resolution.{greatest, resolution, largestRatio, resolutionAnswer, generalizedAnswer}
 use Rattle.resolution.specs.Charts.{chartOf, chartAnswer, columnRatio, figureAnswer}
-use Rattle.compare.specs.Compare.{patternOf, compareAnswer}
-use Rattle.advice.specs.Advice.{without, unbeaten, firstRun, advice, inTurn}
+use Rattle.compare.specs.Compare.{comparePatterns, patternOf, compareAnswer}
+use Rattle.advice.specs.Advice.{without, advice, inTurn, adviceAnswer, turnsAnswer}
 use Rattle.held.specs.declared.Held.{Held}
 use Rattle.held.specs.Held.{standing, marksIn, planIn, standingIn, IsHeld, Call, strikes, callChecks, callAnswer}
 use Rattle.standing.specs.Alike.{Alike}
@@ -47,9 +48,7 @@ use Rattle.standing.specs.Answers.{
   heldTable,
   heldRooms,
   heldComparison,
-  adviceAnswer,
   heldAdvice,
-  turnsAnswer,
   heldTurns,
 }
 use Rattle.held.proofs.Standing.{fewer-stand}
@@ -126,9 +125,8 @@ module _ (levels t u rs : List ℕ) (a : SameShown levels t u rs) where
   advice-shown : advice p rs ≡ advice q rs
   unfolding advice
   advice-shown =
-      ap (λ ls. firstRun (keep (unbeaten ls) ls))
-      (ap (λ w. map (λ f. record { run = f; words = w f }) rs)
-      (fun-ext (λ f. pattern-seen (level p) (entry p) (entry q) (without f rs) (everyColumn p) (without-same f))))
+      ap (λ w. best lowest (λ f g. comparePatterns (w f) (w g)) 0 rs)
+      (fun-ext (λ f. pattern-seen (level p) (entry p) (entry q) (without f rs) (everyColumn p) (without-same f)))
 
   -- a set of columns that is refused has no word to show
   set-shown : (f : ℕ) (I : List ℕ) → setWordAnswer p rs (ofHeld rs) f I ≡ setWordAnswer q rs (ofHeld rs) f I
@@ -215,11 +213,11 @@ module _ {h k : Held} (A : Alike h k) where
   alike-set-word f I = alike-answer A (λ p rs. setWordAnswer p rs (ofHeld rs) f I) (λ levels t u rs a. set-shown levels t u rs a f I)
 
   pub alike-advice : heldAdvice h .answer ≡ heldAdvice k .answer
-  unfolding heldAdvice
+  unfolding heldAdvice adviceAnswer
   alike-advice = alike-answer A (λ p rs. adviceAnswer p rs (ofHeld rs)) (λ levels t u rs a. rw (advice-shown levels t u rs a))
 
   pub alike-turns : (n : ℕ) → heldTurns h n .answer ≡ heldTurns k n .answer
-  unfolding heldTurns
+  unfolding heldTurns turnsAnswer
   alike-turns n = alike-answer A (λ p rs. turnsAnswer p rs (ofHeld rs) n) (λ levels t u rs a. rw (turns-shown n levels t u rs a))
 
   -- the tables and their rooms

@@ -4,13 +4,14 @@ use mathlib.Core.List.{List, [], _∷_, map}
 use lib.IntN.{ℤ, pos}
 use lib.ListN.{take}
 use Rattle.exact.specs.Fractions.{smallerFraction}
+use Rattle.best.specs.Best.{best}
 use Rattle.rules.specs.Plan.{Plan, plan}
 use Rattle.rules.specs.Refusals.{firstBadLevel, firstBadEntry}
 use Rattle.words.specs.Words.{score, wordOf, word}
 use Rattle.words.specs.Answers.{wordList, wordsAnswer}
 use Rattle.counts.specs.Counts.{even, balanced, strength, strengthAnswer}
 use Rattle.compare.specs.Compare.{A, pattern, comparePatterns}
-use Rattle.advice.specs.Advice.{advice}
+use Rattle.advice.specs.Advice.{advice, adviceAnswer}
 use Rattle.held.specs.declared.Held.{Held}
 use Rattle.held.specs.Held.{standing, heldOf, openAnswer, Call, strikes, callChecks, remarked, callAnswer}
 use Rattle.held.specs.History.{after}
@@ -28,7 +29,7 @@ heldAfter p cs = after (openAnswer p .held) cs
 -- the refusal's number, then the answer
 ask : Question → List ℤ
 unfolding openAnswer firstBadLevel firstBadEntry heldOf standing callAnswer callChecks remarked wordList word wordOf score smallerFraction
-    even balanced strength A pattern comparePatterns advice wordsAnswer strengthAnswer heldWords heldStrength heldAdvice
+    even balanced strength A pattern comparePatterns best advice wordsAnswer strengthAnswer adviceAnswer heldWords heldStrength heldAdvice
 ask (wordsOf p cs) = let a = heldWords (heldAfter p cs) .answer in pos (a .refused .number) ∷ take 2 (a .words)
 ask (strengthOf p cs) = let a = heldStrength (heldAfter p cs) .answer in pos (a .refused .number) ∷ pos (a .strength) ∷ []
 ask (adviceOf p cs) = let a = heldAdvice (heldAfter p cs) .answer in pos (a .refused .number) ∷ pos (a .run) ∷ []

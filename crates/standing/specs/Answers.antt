@@ -1,10 +1,7 @@
 -- Document 01, "The held plan": every answer is that of the standing runs; the plan comes back as it was.
-use mathlib.Core.List.{List, [], _∷_}
-use Prim.Native.Nat.{ℕ, _+_}
-use lib.ListN.{length, replicate}
-use Rattle.exact.specs.Lists.{filledTo}
-use Rattle.rules.specs.Plan.{Plan, columns, level, entry, everyColumn}
-use Rattle.rules.specs.Refusals.{Check, refusal, unless, ofHeld, badNumber, tooFew}
+use mathlib.Core.List.{List}
+use Prim.Native.Nat.{ℕ}
+use Rattle.rules.specs.Plan.{columns, level, entry, everyColumn}
 use Rattle.words.specs.Answers.{wordsAnswer, wordAnswer, rowSumsAnswer}
 use Rattle.counts.specs.Counts.{strengthAnswer}
 use Rattle.projections.specs.Projections.{setWordAnswer}
@@ -12,8 +9,8 @@ use Rattle.frequencies.specs.Frequencies.{Line, Rooms, absoluteTable, relativeT
 use Rattle.resolution.specs.Resolution.{resolutionAnswer, generalizedAnswer}
 use Rattle.resolution.specs.Charts.{chartAnswer, figureAnswer}
 use Rattle.compare.specs.Compare.{compareAnswer}
-use Rattle.advice.specs.Advice.{advice, inTurn}
-use Rattle.held.specs.Held.{planIn, standingIn}
+use Rattle.advice.specs.Advice.{adviceAnswer, turnsAnswer}
+use Rattle.held.specs.Held.{planIn, standingIn, ofStanding}
 use Rattle.held.specs.declared.Held.{Held}
 use Rattle.standing.specs.declared.HeldWords.{HeldWords}
 use Rattle.standing.specs.declared.HeldWord.{HeldWord}
@@ -26,14 +23,8 @@ use Rattle.standing.specs.declared.HeldFigure.{HeldFigure}
 use Rattle.standing.specs.declared.HeldSetWord.{HeldSetWord}
 use Rattle.standing.specs.declared.HeldTable.{HeldTable}
 use Rattle.standing.specs.declared.HeldComparison.{HeldComparison}
-use Rattle.standing.specs.declared.AdviceAnswer.{AdviceAnswer}
 use Rattle.standing.specs.declared.HeldAdvice.{HeldAdvice}
-use Rattle.standing.specs.declared.TurnsAnswer.{TurnsAnswer}
 use Rattle.standing.specs.declared.HeldTurns.{HeldTurns}
-
--- how a call that names no run begins: where none stands the answer is 10, ahead of every other check
-abbrev pub ofStanding : Held → List Check → List Check
-ofStanding h checks = ofHeld (standingIn h) checks
 
 unfoldable pub heldWords : Held → HeldWords
 heldWords h = record { held = h; answer = wordsAnswer (planIn h) (standingIn h) (ofStanding h) }
@@ -85,19 +76,10 @@ heldComparison h k = record {
   answer = compareAnswer (ofStanding h) (planIn h) (standingIn h) (ofStanding k) (planIn k) (standingIn k);
 }
 
--- ---- advice: two or more must stand; for the best k, k from 1 to 3 and more than k
-
-abbrev pub adviceAnswer : Plan → List ℕ → (List Check → List Check) → AdviceAnswer
-adviceAnswer p rs start =
-    let r = refusal (start (tooFew 2 (length rs) ∷ [])) in record { refused = r; run = unless r 0 (advice p rs) }
+-- ---- advice, and losing in turn
 
 unfoldable pub heldAdvice : Held → HeldAdvice
 heldAdvice h = record { held = h; answer = adviceAnswer (planIn h) (standingIn h) (ofStanding h) }
-
-abbrev pub turnsAnswer : Plan → List ℕ → (List Check → List Check) → ℕ → TurnsAnswer
-turnsAnswer p rs start k =
-    let r = refusal (start (badNumber k ∷ tooFew (k + 1) (length rs) ∷ [])) in
-    record { refused = r; runs = unless r (replicate 3 0) (filledTo 3 0 (inTurn p k rs)) }
 
 unfoldable pub heldTurns : Held → ℕ → HeldTurns
 heldTurns h k = record { held = h; answer = turnsAnswer (planIn h) (standingIn h) (ofStanding h) k }

@@ -1,4 +1,6 @@
 // Questions to a held plan: every answer of the library, over the runs that stand.
+use advice::AdviceAnswer;
+use advice::TurnsAnswer;
 use compare::Comparison;
 use counts::StrengthAnswer;
 use frequencies::TableAnswer;
@@ -8,12 +10,10 @@ use resolution::ChartAnswer;
 use resolution::FigureAnswer;
 use resolution::GeneralizedAnswer;
 use resolution::ResolutionAnswer;
-use rules::Refusal;
 use words::RowSumsAnswer;
 use words::WordAnswer;
 use words::WordsAnswer;
 
-mod measures;
 pub mod questions;
 pub mod ratios;
 pub mod tables;
@@ -75,21 +75,9 @@ pub struct HeldComparison {
     pub answer: Comparison,
 }
 
-// The run advised for loss.
-pub struct AdviceAnswer {
-    pub refused: Refusal,
-    pub run: usize,
-}
-
 pub struct HeldAdvice {
     pub held: Held,
     pub answer: AdviceAnswer,
-}
-
-// The best to lose, in the order taken, zero in any place left over.
-pub struct TurnsAnswer {
-    pub refused: Refusal,
-    pub runs: [usize; 3],
 }
 
 pub struct HeldTurns {

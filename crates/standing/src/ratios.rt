@@ -5,26 +5,23 @@ use crate::HeldGeneralized;
 use crate::HeldResolution;
 use held::Held;
 use held::inner::standing_runs;
-use resolution::ResolutionAnswer;
 use resolution::answers::chart_of;
 use resolution::answers::figure_of;
 use resolution::answers::generalized_of;
-use resolution::answers::resolution_of;
+use resolution::answers::resolution_answer;
 use resolution::inner::Rating;
-use resolution::inner::rate;
-use resolution::inner::refusing;
-use rules::Refusal;
+use resolution::inner::rate_answer;
 ghost use mathlib.Core.Path.{_≡_};
-ghost use Prim.Native.Nat.{_<_};
-ghost use Rattle.resolution.specs.Given.{ratingOf};
-ghost use Rattle.held.specs.Held.{IsHeld, planIn, standingIn};
-ghost use Rattle.standing.specs.Given.{ofStandingColumn};
+ghost use mathlib.Core.List.{[]};
+ghost use Rattle.rules.specs.Refusals.{refusal};
+ghost use Rattle.resolution.specs.Given.{ratingBeside};
+ghost use Rattle.held.specs.Held.{IsHeld, planIn, standingIn, ofStanding};
 ghost use Rattle.standing.specs.Answers.{heldResolution, heldGeneralized, heldChart, heldFigure};
 
 // The rating of the standing runs, whose words are held.
-fn rate_standing(held: Held, column: usize) -> Rating
-    requires { ⌜ IsHeld held × (0 < held .runs) ⌝ }
-    ensures { λ r. ⌜ r ≡ ratingOf (planIn held) (standingIn held) (λ checks. checks) column ⌝ }
+fn rate_held(held: Held, column: usize) -> Rating
+    requires { ⌜ IsHeld held ⌝ }
+    ensures { λ r. ⌜ r ≡ ratingBeside (planIn held) (standingIn held) (refusal (ofStanding held [])) column ⌝ }
 {
     let columns = held.columns;
     let size = held.runs * columns;
@@ -32,31 +29,16 @@ fn rate_standing(held: Held, column: usize) -> Rating
     let entries = held.entries;
     let words = held.words;
     let standing = standing_runs(held);
-    let numbers = standing.runs;
+    let runs = standing.runs;
     let count = standing.count;
-    rate(
+    rate_answer(
+        standing.refused,
         &levels[..columns],
         &entries[..size],
-        &numbers[..count],
+        &runs[..count],
         &words,
         column,
     )
-}
-
-// The same behind refusal 10 and the check of the column.
-fn rate_held(held: Held, column: usize) -> Rating
-    requires { ⌜ IsHeld held ⌝ }
-    ensures { λ r. ⌜ r ≡ ratingOf (planIn held) (standingIn held) (ofStandingColumn held column) column ⌝ }
-{
-    let runs = held.runs;
-    let columns = held.columns;
-    if runs == 0 {
-        return refusing(Refusal::plain(10));
-    }
-    if columns <= column {
-        return refusing(Refusal::plain(8));
-    }
-    rate_standing(held, column)
 }
 
 // R, the smallest length from 1 whose word is above zero.
@@ -64,19 +46,10 @@ pub fn resolution(held: Held) -> HeldResolution
     requires { ⌜ IsHeld held ⌝ }
     ensures { λ r. ⌜ r ≡ heldResolution held ⌝ }
 {
-    let runs = held.runs;
     let columns = held.columns;
     let words = held.words;
-    if runs == 0 {
-        let refused = Refusal::plain(10);
-        let answer = ResolutionAnswer {
-            refused,
-            resolution: 0,
-        };
-        return HeldResolution { held, answer };
-    }
-    let length = resolution::inner::resolution(&words, columns);
-    let answer = resolution_of(columns, length);
+    let standing = standing_runs(held);
+    let answer = resolution_answer(standing.refused, &words, columns);
     HeldResolution { held, answer }
 }
 

@@ -1,57 +1,15 @@
 // Words of single sets of columns, and projection frequency tables, of the standing runs.
 use crate::HeldSetWord;
 use crate::HeldTable;
-use frequencies::TableAnswer;
+use frequencies::inner::table_answer;
 use held::Held;
 use held::inner::standing_runs;
-use projections::SetWordAnswer;
-use rules::Refusal;
+use projections::Engine;
+use projections::inner::set_word_answer;
 ghost use mathlib.Core.Path.{_≡_};
-ghost use mathlib.Core.List.{[], _∷_};
-ghost use Prim.Native.Nat.{_<_};
-ghost use Rattle.rules.specs.Plan.{columns, level, entry};
-ghost use Rattle.rules.specs.Refusals.{refusal, badSize};
-ghost use Rattle.words.specs.Words.{wordOf};
-ghost use Rattle.frequencies.specs.Frequencies.{rooms, tableIn, tableAnswer, tableRooms};
-ghost use Rattle.projections.specs.Given.{Projection, SizeOf};
+ghost use Rattle.frequencies.specs.Frequencies.{rooms, tableIn};
 ghost use Rattle.held.specs.Held.{IsHeld, planIn, standingIn};
-ghost use Rattle.standing.specs.Answers.{ofStanding, heldSetWord, heldAbsolute, heldRelative, heldTable, heldRooms};
-
-// Refusal 10, and 6, of the projection size.
-fn check_size(held: Held, f: usize) -> Refusal
-    requires { ⌜ IsHeld held ⌝ }
-    ensures { λ r. ⌜ r ≡ refusal (ofStanding held (badSize (columns (planIn held)) f ∷ [])) ⌝ }
-{
-    let runs = held.runs;
-    let columns = held.columns;
-    if runs == 0 {
-        return Refusal::plain(10);
-    }
-    if f < 1 {
-        return Refusal::plain(6);
-    }
-    if 4 < f {
-        return Refusal::plain(6);
-    }
-    if columns < f {
-        return Refusal::plain(6);
-    }
-    Refusal::accepted()
-}
-
-fn set_word_of(held: Held, set: &[usize]) -> i64
-    requires { ⌜ IsHeld held × Projection (planIn held) (now set) ⌝ }
-    ensures { λ r. ⌜ r ≡ wordOf (level (planIn held)) (entry (planIn held)) (standingIn held) (now (set .entry)) ⌝ }
-{
-    let columns = held.columns;
-    let size = held.runs * columns;
-    let levels = held.levels;
-    let entries = held.entries;
-    let standing = standing_runs(held);
-    let numbers = standing.runs;
-    let count = standing.count;
-    projections::inner::set_word(&levels[..columns], &entries[..size], &numbers[..count], set)
-}
+ghost use Rattle.standing.specs.Answers.{heldSetWord, heldAbsolute, heldRelative, heldTable, heldRooms};
 
 // W(I) of a set of f columns.
 pub fn set_word(held: Held, f: usize, set: &[usize]) -> HeldSetWord
@@ -59,66 +17,25 @@ pub fn set_word(held: Held, f: usize, set: &[usize]) -> HeldSetWord
     ensures { λ r. ⌜ r ≡ heldSetWord held f (now (set .entry)) ⌝ }
 {
     let columns = held.columns;
-    let refused = check_size(held, f);
-    if refused.number != 0 {
-        let answer = SetWordAnswer { refused, word: 0 };
-        return HeldSetWord { held, answer };
-    }
-    if set.len() != f {
-        let answer = SetWordAnswer {
-            refused: Refusal::plain(8),
-            word: 0,
-        };
-        return HeldSetWord { held, answer };
-    }
-    if !sets::inner::is_set(columns, set) {
-        let answer = SetWordAnswer {
-            refused: Refusal::plain(8),
-            word: 0,
-        };
-        return HeldSetWord { held, answer };
-    }
-    let word = set_word_of(held, set);
-    let answer = SetWordAnswer { refused, word };
-    HeldSetWord { held, answer }
-}
-
-// The table for size f in three lent rooms, of the standing runs; refusal 7 where a room is too short.
-fn frequencies_of(
-    held: Held,
-    f: usize,
-    relative: bool,
-    nums: &mut [u64],
-    dens: &mut [u64],
-    counts: &mut [u64],
-) -> TableAnswer
-    requires { ⌜ IsHeld held × ((0 < held .runs) × SizeOf (columns (planIn held)) f) ⌝ }
-    ensures answer { λ r. ⌜ r ≡ tableAnswer (λ checks. checks) (columns (planIn held)) f (tableIn relative (planIn held) (standingIn held) f)
-        (rooms (now (nums .entry)) (now (dens .entry)) (now (counts .entry))) ⌝ }
-    ensures rooms { λ _. ⌜ rooms (now (nums .exit)) (now (dens .exit)) (now (counts .exit)) ≡
-        tableRooms (λ checks. checks) (columns (planIn held)) f (tableIn relative (planIn held) (standingIn held) f)
-        (rooms (now (nums .entry)) (now (dens .entry)) (now (counts .entry))) ⌝ }
-{
-    let columns = held.columns;
     let size = held.runs * columns;
     let levels = held.levels;
     let entries = held.entries;
     let standing = standing_runs(held);
-    let numbers = standing.runs;
+    let runs = standing.runs;
     let count = standing.count;
-    frequencies::inner::frequencies(
+    let answer = set_word_answer(
+        standing.refused,
         &levels[..columns],
         &entries[..size],
-        &numbers[..count],
+        &runs[..count],
         f,
-        relative,
-        nums,
-        dens,
-        counts,
-    )
+        set,
+        Engine::Faster,
+    );
+    HeldSetWord { held, answer }
 }
 
-// The same behind refusals 10 and 6.
+// The table for size f, absolute or relative, in three lent rooms.
 fn frequencies(
     held: Held,
     f: usize,
@@ -134,12 +51,24 @@ fn frequencies(
         heldRooms held f (tableIn relative (planIn held) (standingIn held) f)
         (rooms (now (nums .entry)) (now (dens .entry)) (now (counts .entry))) ⌝ }
 {
-    let refused = check_size(held, f);
-    if refused.number != 0 {
-        let answer = TableAnswer { refused, lines: 0 };
-        return HeldTable { held, answer };
-    }
-    let answer = frequencies_of(held, f, relative, nums, dens, counts);
+    let columns = held.columns;
+    let size = held.runs * columns;
+    let levels = held.levels;
+    let entries = held.entries;
+    let standing = standing_runs(held);
+    let runs = standing.runs;
+    let count = standing.count;
+    let answer = table_answer(
+        standing.refused,
+        &levels[..columns],
+        &entries[..size],
+        &runs[..count],
+        f,
+        relative,
+        nums,
+        dens,
+        counts,
+    );
     HeldTable { held, answer }
 }
 

@@ -1,6 +1,6 @@
 -- What the routines of a whole plan are lent, and the word of one length.
 use mathlib.Core.Path.{_≡_, refl, _∙_, ap}
-use mathlib.Core.List.{List, [], _++_, List·Memᴰ·head, List·Memᴰ·tail, List·Memᴰ·not-nil}
+use mathlib.Core.List.{List, [], _∷_, _++_, List·Memᴰ·head, List·Memᴰ·tail, List·Memᴰ·not-nil}
 use Prim.Native.Nat.{ℕ, _+_, _-_, _≤_}
 use native.Mathlib.Omega.{arith}
 use borrow.Author.Tests.{ltb-false}
@@ -11,8 +11,9 @@ use Rattle.exact.specs.Lists.{from, product}
 use Rattle.exact.proofs.Numbers.{length-from, map-from-at}
 use Rattle.rules.specs.declared.Refusal.{Refusal}
 use Rattle.rules.specs.Plan.{Plan, plan, columns, level, entry, everyColumn, mostColumns, mostRuns, highestProduct}
-use Rattle.rules.specs.Refusals.{refusal, levelChecks, badColumns, badLevel, badProduct}
+use Rattle.rules.specs.Refusals.{refusal, levelChecks, badColumns, badLevel, badProduct, badLength}
 use Rattle.rules.proofs.Order.{passed-none}
+use Rattle.rules.proofs.Ranges.{inside}
 use Rattle.plan.specs.Good.{Sound}
 use Rattle.plan.proofs.Checks.{columns-passed, levels-passed}
 use Rattle.words.specs.Words.{word}
@@ -51,3 +52,7 @@ word-at p rs j l h =
     let W = word (level p) (entry p) rs (everyColumn p) in
     let e : 1 + (j - 1) ≡ j = omega arith in
     map-from-at W 1 mostColumns (j - 1) (pos 0) (omega arith) ∙ ap W e
+
+-- a length that passes its check is one of the words'
+pub length-passed : (m j : ℕ) {r : Refusal} → r ≡ refusal (badLength m j ∷ []) → r .number ≡ 0 → (1 ≤ j) × (j ≤ m)
+length-passed m j e z = inside 1 m j (passed-none (badLength m j ∷ []) tt e z (badLength m j) (List·Memᴰ·head refl))

@@ -9,5 +9,6 @@ pub mod Marked
 pub mod Totals
 pub mod OfPlan
 pub mod Once
+pub mod RowsByPair
 pub mod Answered
 pub mod Figures

@@ -6,20 +6,22 @@ use Prim.Native.Nat.{ℕ, _*_, _^_, _≤_, _<_}
 use native.Mathlib.Nat.{le-trans, mul-le-mul}
 use native.Mathlib.Omega.{arith}
 use lib.IntN.{ℤ, pos, natAbs, _-ℤ_}
-use lib.ListN.{length, take, drop, replicate}
+use lib.ListN.{length, take, drop, replicate, length-take}
 use lib.Signed.{_≤ℤ_}
 use Rattle.exact.specs.Lists.{product}
+use Rattle.exact.proofs.Members.{take-mem}
 use Rattle.exact.proofs.Numbers.{length-from, mem-from, mul-below, map-from-cong}
 use Rattle.rules.specs.Plan.{Plan, plan, columns, level, entry, everyColumn, mostRuns, highestProduct}
 use Rattle.plan.specs.Good.{Sound}
 use Rattle.words.specs.Words.{scoreAt, pairSum, rowSum, word, diagonal}
 use Rattle.words.specs.declared.Sums.{Sums}
+use Rattle.words.specs.Given.{Row, Part, added}
 use Rattle.words.specs.Answers.{byLength, zeros, pairList, rowList, rowsByRun, diagonalList}
-use Rattle.words.proofs.Laws.{pair-esp, diagonal-esp, row-pairs, word-above}
+use Rattle.words.proofs.Laws.{pair-esp, diagonal-esp, row-pairs, pair-above, word-above}
 use Rattle.words.proofs.Bound.{BelowLevels, score-bound, diagonal-bound, pair-bound, row-bound, word-bound}
 use Rattle.words.proofs.Positive.{word-nonneg}
 use Rattle.words.proofs.Columns.{soFar, level-product}
-use Rattle.words.proofs.Totals.{totals}
+use Rattle.words.proofs.Totals.{by-length-row, added-first, first-part, totals}
 use Rattle.words.proofs.Marked.{marked}
 
 -- ---- the lists of the answers are sums over runs
@@ -32,10 +34,6 @@ module _ (p : Plan) where
   -- what the pair f, g adds to the word of length j
   abbrev pub ofPair : ℕ → ℕ → ℕ → ℤ
   ofPair f j g = pairSum (level p) (entry p) (everyColumn p) j f g
-
-  pub pair-longer : (f g : ℕ) → take 24 (drop 1 (pairList p f g)) ≡ byLength (λ j. ofPair f j g)
-  unfolding pairList
-  pair-longer f g = refl
 
   pub row-totals : (rs : List ℕ) (f : ℕ) → totals (ofPair f) rs ≡ rowList p rs f
   unfolding totals rowList
@@ -87,6 +85,9 @@ module _ (p : Plan) (rs : List ℕ) (S : Sound p rs) where
   pub sound-run : (f : ℕ) → List·Memᴰ f rs → Sound p (f ∷ [])
   sound-run f m = sound-some (f ∷ []) (omega arith) (λ g n. rw (List·Memᴰ·eq-of-singleton n) m)
 
+  pub sound-take : (k : ℕ) → Sound p (take k rs)
+  sound-take k = sound-some (take k rs) (omega (arith, length-take k rs, S .few)) (take-mem k rs)
+
   -- the levels alone
   pub sound-levels : Sound (plan (p .levels) []) []
   sound-levels = record {
@@ -126,6 +127,10 @@ diagonal-small p rs S j =
     le-trans (diagonal-bound (level p) (everyColumn p) (λ i k. let q = mem-from 0 (columns p) k in S .level-low i (omega arith)) j)
     (rw (level-product p) (S .small))
 
+pub diagonal-row : (p : Plan) (rs : List ℕ) → Sound p rs → (b : ℕ) → highestProduct ≤ b → Row b (diagonalList p)
+unfolding diagonalList
+diagonal-row p rs S b h = by-length-row (diagonal (level p) (everyColumn p)) b (λ j. omega (arith, diagonal-small p rs S j))
+
 pub word-none : (p : Plan) (rs : List ℕ) (j : ℕ) → columns p < j → word (level p) (entry p) rs (everyColumn p) j ≡ pos 0
 word-none p rs j h = word-above (level p) (entry p) rs (everyColumn p) j (rw (length-from 0 (columns p)) h)
 
@@ -140,3 +145,18 @@ module _ (p : Plan) (f g : ℕ) (F : Sound p (f ∷ [])) (G : Sound p (g ∷ [])
       (pair-bound (level p) (entry p) (everyColumn p) f g (below-levels p (f ∷ []) F f (List·Memᴰ·head refl))
       (below-levels p (g ∷ []) G g (List·Memᴰ·head refl)) j)
       (rw (level-product p) (F .small))
+
+-- the pair's sums for the lengths 1 to n, which is that of all columns at least
+module _ (p : Plan) (f g n : ℕ) (h : columns p ≤ n) where
+  none-above : (j : ℕ) → n < j → ofPair p f j g ≡ pos 0
+  none-above j l = pair-above (level p) (entry p) (everyColumn p) j (omega (arith, length-from 0 (columns p))) f g
+
+  pub pair-added : (row : List ℤ) → added row (take n (drop 1 (pairList p f g))) ≡ added row (byLength (λ j. ofPair p f j g))
+  unfolding pairList
+  pair-added = added-first (λ j. ofPair p f j g) n none-above
+
+  pub pair-part : Sound p (f ∷ []) → Sound p (g ∷ []) → Part (2 ^ 61) (take n (drop 1 (pairList p f g)))
+  unfolding pairList
+  pair-part F G =
+      first-part (λ j. ofPair p f j g) n none-above (2 ^ 61)
+      (by-length-row (λ j. ofPair p f j g) (2 ^ 61) (λ j. omega (arith, pair-small p f g F G j)))

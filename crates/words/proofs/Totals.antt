@@ -1,13 +1,13 @@
 -- Sums over the runs so far, for each word length: a row over its pairs.
 use mathlib.Core.Path.{_≡_, refl, sym, _∙_, ap}
-use mathlib.Core.List.{List, [], _∷_, _++_, List·Memᴰ}
+use mathlib.Core.List.{List, [], _∷_, List·Memᴰ}
 use Prim.Native.Nat.{ℕ, _+_, _-_, _*_, _≤_, _<_}
 use native.Mathlib.Decide.{decLt}
 use native.Mathlib.Nat.{le-trans, mul-le-mul-right}
 use native.Mathlib.Numerals.{add-one}
 use native.Mathlib.Omega.{arith}
 use lib.ListN.{length, getD, take, length-take, List·getD-eq-default}
-use lib.Seq.{ext-getD, take-suc}
+use lib.Seq.{ext-getD, getD-take, take-suc}
 use lib.IntN.{ℤ, pos, natAbs, _+ℤ_, +ℤ-idl, +ℤ-idr, +ℤ-assoc}
 use Rattle.exact.specs.Lists.{sum}
 use Rattle.exact.proofs.Order.{natAbs-+}
@@ -15,18 +15,42 @@ use Rattle.exact.proofs.Sums.{sum-++}
 use Rattle.exact.proofs.Members.{take-mem}
 use Rattle.exact.proofs.Numbers.{length-map-from, map-from-at, map-from-cong}
 use Rattle.rules.specs.Plan.{mostColumns, mostRuns}
-use Rattle.words.specs.Given.{Row, added}
+use Rattle.words.specs.Given.{Row, Part, added}
 use Rattle.words.specs.Answers.{byLength, zeros}
 use Rattle.words.proofs.Bound.{sum-bound}
 
 -- ---- a number for each length
 
-pub by-length-row : (F : ℕ → ℤ) (b : ℕ) → ((j : ℕ) → natAbs (F j) ≤ b) → Row b (byLength F)
-by-length-row F b h = record { long = length-map-from F 1 mostColumns; small = λ k. small k (decLt k 24) }
+-- what stands at place k: the number for length k + 1, and past the end zero
+by-length-at : (F : ℕ → ℤ) (k : ℕ) (P : ℤ → Type 0) → P (F (1 + k)) → P (pos 0) → P (getD (byLength F) k (pos 0))
+by-length-at F k P here past = go (decLt k 24)
   where
-    small : (k : ℕ) → Dec (k < 24) → natAbs (getD (byLength F) k (pos 0)) ≤ b
-    small k (yes l) = rw (map-from-at F 1 mostColumns k (pos 0) l) (h (1 + k))
-    small k (no n) = rw (List·getD-eq-default (byLength F) (pos 0) {n = k} (omega (arith, length-map-from F 1 mostColumns))) (omega arith)
+    go : Dec (k < 24) → P (getD (byLength F) k (pos 0))
+    go (yes l) = rw (map-from-at F 1 mostColumns k (pos 0) l) here
+    go (no n) = rw (List·getD-eq-default (byLength F) (pos 0) {n = k} (omega (arith, length-map-from F 1 mostColumns))) past
+
+pub by-length-row : (F : ℕ → ℤ) (b : ℕ) → ((j : ℕ) → natAbs (F j) ≤ b) → Row b (byLength F)
+by-length-row F b h =
+    record { long = length-map-from F 1 mostColumns; small = λ k. by-length-at F k (λ z. natAbs z ≤ b) (h (1 + k)) (omega arith) }
+
+pub whole-part : {b : ℕ} {row : List ℤ} → Row b row → Part b row
+whole-part R = record { short = omega (arith, R .long); small = R .small }
+
+-- the first m of a row, of which the others are zero
+module _ (F : ℕ → ℤ) (m : ℕ) (above : (j : ℕ) → m < j → F j ≡ pos 0) where
+  first-at : (k : ℕ) → Dec (k < m) → getD (take m (byLength F)) k (pos 0) ≡ getD (byLength F) k (pos 0)
+  first-at k (yes l) = getD-take m (byLength F) k (pos 0) l
+  first-at k (no n) =
+      List·getD-eq-default (take m (byLength F)) (pos 0) {n = k} (omega (arith, length-take m (byLength F)))
+      ∙ sym (by-length-at F k (λ z. z ≡ pos 0) (above (1 + k) (omega arith)) refl)
+
+  pub added-first : (row : List ℤ) → added row (take m (byLength F)) ≡ added row (byLength F)
+  unfolding added
+  added-first row = map-from-cong 0 mostColumns (λ k. ap (λ z. getD row k (pos 0) +ℤ z) (first-at k (decLt k m)))
+
+  pub first-part : (b : ℕ) → Row b (byLength F) → Part b (take m (byLength F))
+  first-part b R =
+      record { short = omega (arith, length-take m (byLength F), R .long); small = λ k. rw (first-at k (decLt k m)) (R .small k) }
 
 pub added-by-length : (F G : ℕ → ℤ) → added (byLength F) (byLength G) ≡ byLength (λ j. F j +ℤ G j)
 unfolding added
@@ -58,6 +82,13 @@ added-row row more b c B C =
 
 -- ---- summed over some runs, where run g gives F j g for length j
 
+pub sum-next : {R : Type 0} (runs : List R) (k : ℕ) (d : R) → k < length runs → (F : R → ℤ) →
+    sum (take k runs) F +ℤ F (getD runs k d) ≡ sum (take (k + 1) runs) F
+sum-next runs k d h F =
+    ap (λ z. sum (take k runs) F +ℤ z) (sym (+ℤ-idr (F (getD runs k d))))
+    ∙ sym (sum-++ (take k runs) (getD runs k d ∷ []) F)
+    ∙ ap (λ l. sum l F) (sym (take-suc runs k d h) ∙ ap (λ n. take n runs) (sym (add-one k)))
+
 module _ {R : Type 0} (F : ℕ → R → ℤ) where
   unfoldable pub totals : List R → List ℤ
   totals runs = byLength (λ j. sum runs (F j))
@@ -71,10 +102,7 @@ module _ {R : Type 0} (F : ℕ → R → ℤ) where
   unfolding totals
   totals-next runs k d h =
       added-by-length (λ j. sum (take k runs) (F j)) (λ j. F j (getD runs k d))
-      ∙ map-from-cong 1 mostColumns (λ j.
-      ap (λ z. sum (take k runs) (F j) +ℤ z) (sym (+ℤ-idr (F j (getD runs k d))))
-      ∙ sym (sum-++ (take k runs) (getD runs k d ∷ []) (F j))
-      ∙ ap (λ l. sum l (F j)) (sym (take-suc runs k d h) ∙ ap (λ n. take n runs) (sym (add-one k))))
+      ∙ map-from-cong 1 mostColumns (λ j. sum-next runs k d h (F j))
 
   pub totals-row : (runs : List R) (k b c : ℕ) → length runs ≤ mostRuns → mostRuns * b ≤ c →
       ((g : R) → List·Memᴰ g runs → (j : ℕ) → natAbs (F j g) ≤ b) → Row c (totals (take k runs))

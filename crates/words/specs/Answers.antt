@@ -3,11 +3,12 @@
 use mathlib.Core.Bool.{cond}
 use mathlib.Core.List.{List, [], _∷_, map}
 use Prim.Native.Nat.{ℕ, _+_}
-use lib.IntN.{ℤ, pos, negℤ}
+use lib.IntN.{ℤ, pos}
 use lib.ListN.{replicate}
 use Rattle.exact.specs.Lists.{from, holds}
 use Rattle.rules.specs.Plan.{Plan, columns, level, entry, everyColumn, everyRun, mostColumns, mostRuns}
-use Rattle.rules.specs.Refusals.{Check, refusal, refuses, unless, ofPlan, badLength, levelChecks}
+use Rattle.rules.specs.declared.Refusal.{Refusal}
+use Rattle.rules.specs.Refusals.{Check, refusal, unless, numberOr, ofPlan, badLength, levelChecks}
 use Rattle.words.specs.Words.{word, pairSum, rowSum, diagonal}
 use Rattle.words.specs.declared.Sums.{Sums}
 use Rattle.words.specs.declared.WordsAnswer.{WordsAnswer}
@@ -47,10 +48,12 @@ module _ (p : Plan) (rs : List ℕ) where
       let r = refusal (start (badLength (columns p) j ∷ [])) in
       record { refused = r; word = unless r (pos 0) (word (level p) (entry p) rs (everyColumn p) j) }
 
+  -- the refusal, and beside it the row sums
+  abbrev pub rowSumsBeside : Refusal → RowSumsAnswer
+  rowSumsBeside r = record { refused = r; rows = unless r (replicate mostRuns (record { sums = zeros })) rowsByRun }
+
   unfoldable pub rowSumsAnswer : (List Check → List Check) → RowSumsAnswer
-  rowSumsAnswer start =
-      let r = refusal (start []) in
-      record { refused = r; rows = unless r (replicate mostRuns (record { sums = zeros })) rowsByRun }
+  rowSumsAnswer start = rowSumsBeside (refusal (start []))
 
 -- E_1, E_2, ..
 unfoldable pub diagonalList : Plan → List ℤ
@@ -63,4 +66,4 @@ diagonalAnswer p = let r = refusal (levelChecks p) in record { refused = r; sums
 -- what the laboratory's planner gets: the word, or the refusal number negated
 unfoldable pub plannerWord : Plan → ℕ → ℤ
 plannerWord p j =
-    let a = wordAnswer p (everyRun p) (ofPlan p) j in cond (refuses (a .refused)) (negℤ (pos (a .refused .number))) (a .word)
+    let a = wordAnswer p (everyRun p) (ofPlan p) j in numberOr (a .refused) (a .word)

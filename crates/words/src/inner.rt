@@ -1,16 +1,19 @@
 // For our own crates: row sums over some runs of a plan, each named by its number, as the runs that stand are; and the words of all its runs.
+use crate::RowSumsAnswer;
 use crate::Sums;
 use exact::signed;
+use rules::Refusal;
 ghost use mathlib.Core.Path.{_≡_};
 ghost use mathlib.Core.List.{[], _∷_};
 ghost use Prim.Native.Nat.{_+_, _≤_, _<_, _^_};
 ghost use lib.IntN.{natAbs};
 ghost use lib.ListN.{drop};
 ghost use Rattle.rules.specs.Plan.{plan, runs, everyRun, mostRuns, highestLevel};
+ghost use Rattle.rules.specs.Refusals.{refusal, badLength};
 ghost use Rattle.plan.specs.Good.{Good, Sound};
 ghost use Rattle.words.specs.Words.{score};
-ghost use Rattle.words.specs.Given.{Row, OfColumns, Gains, gained, withColumn, added, bothOrders};
-ghost use Rattle.words.specs.Answers.{pairList, rowList, rowsByRun, wordList, diagonalList};
+ghost use Rattle.words.specs.Given.{Row, Part, OfColumns, Gains, gained, withColumn, added, bothOrders, othersByPlace};
+ghost use Rattle.words.specs.Answers.{pairList, rowList, rowsByRun, rowSumsBeside, wordList, diagonalList};
 
 // The score of a column: its level less one where two entries agree, and -1 where they differ.
 pub fn score(level: u8, a: u8, b: u8) -> i64
@@ -48,12 +51,12 @@ pub(crate) fn extend(sums: &mut [i64; 25], score: i64, columns: usize)
     }
 }
 
-// The sums of a pair go into a total.
+// The sums of a pair go into a total. They may end at the plan's number of columns, since those of greater lengths are zero.
 pub(crate) fn add_to(total: &mut [i64; 24], more: &[i64])
-    requires { ⌜ Row (2 ^ 61) (now total) × Row (2 ^ 61) (now more) ⌝ }
+    requires { ⌜ Row (2 ^ 61) (now total) × Part (2 ^ 61) (now more) ⌝ }
     ensures { λ _. ⌜ now (total .exit) ≡ added (now (total .entry)) (now (more .entry)) ⌝ }
 {
-    for j in 0..24 {
+    for j in 0..more.len() {
         total[j] = signed::add(total[j], more[j]);
     }
 }
@@ -86,15 +89,43 @@ pub fn row(levels: &[u8], table: &[u8], runs: &[usize], f: usize) -> Sums
     Sums { sums: total }
 }
 
-// The row sums of every run, by its number.
+// For the run at each place of the list, its row sums over the runs at the other places. Each pair is visited once, and added to both rows.
+// By place and not by number: a list may name a run twice, and by number such a run would get its pairs twice.
+pub fn rows_of_others(levels: &[u8], table: &[u8], runs: &[usize]) -> [Sums; 256]
+    requires { ⌜ Sound (plan (now levels) (now table)) (now runs) ⌝ }
+    ensures { λ r. ⌜ r ≡ othersByPlace (plan (now (levels .entry)) (now (table .entry))) (now (runs .entry)) ⌝ }
+{
+    let m = levels.len();
+    let mut rows = [Sums { sums: [0; 24] }; 256];
+    for k in 0..runs.len() {
+        let f = runs[k];
+        let mut total = [0i64; 24];
+        for e in 0..k {
+            let sums = pair(levels, table, f, runs[e]);
+            let longer = &sums[1..m + 1];
+            add_to(&mut total, longer);
+            let mut earlier = rows[e];
+            add_to(&mut earlier.sums, longer);
+            rows[e] = earlier;
+        }
+        rows[k] = Sums { sums: total };
+    }
+    rows
+}
+
+// The row sums of every run, by its number. The pairs of a run with itself are added here, at the end.
 pub fn rows(levels: &[u8], table: &[u8], runs: &[usize]) -> [Sums; 256]
     requires { ⌜ Sound (plan (now levels) (now table)) (now runs) ⌝ }
     ensures { λ r. ⌜ r ≡ rowsByRun (plan (now (levels .entry)) (now (table .entry))) (now (runs .entry)) ⌝ }
 {
+    let others = rows_of_others(levels, table, runs);
+    let own = diagonal(levels);
     let mut rows = [Sums { sums: [0; 24] }; 256];
     for k in 0..runs.len() {
         let f = runs[k];
-        rows[f] = row(levels, table, runs, f);
+        let mut whole = others[k];
+        add_to(&mut whole.sums, &own);
+        rows[f] = whole;
     }
     rows
 }
@@ -142,14 +173,39 @@ pub fn words_of_plan(levels: &[u8], table: &[u8]) -> [i64; 24]
     total
 }
 
-// The row sums of an accepted plan.
-pub fn rows_of_plan(levels: &[u8], table: &[u8]) -> [Sums; 256]
-    requires { ⌜ Good (plan (now levels) (now table)) ⌝ }
-    ensures { λ r. ⌜ (let p = plan (now (levels .entry)) (now (table .entry)) in r ≡ rowsByRun p (everyRun p)) ⌝ }
+// The answer for some runs of a plan, behind the refusal that the call begins with.
+pub fn row_sums_answer(
+    refused: Refusal,
+    levels: &[u8],
+    table: &[u8],
+    runs: &[usize],
+) -> RowSumsAnswer
+    requires { ⌜ (refused .number ≡ 0 → Sound (plan (now levels) (now table)) (now runs)) ⌝ }
+    ensures { λ r. ⌜ r ≡ rowSumsBeside (plan (now (levels .entry)) (now (table .entry))) (now (runs .entry)) refused ⌝ }
 {
-    let n = table.len() / levels.len();
-    let runs = plan::inner::every_run(n);
-    rows(levels, table, &runs[..n])
+    if refused.number != 0 {
+        return RowSumsAnswer {
+            refused,
+            rows: [Sums { sums: [0; 24] }; 256],
+        };
+    }
+    RowSumsAnswer {
+        refused,
+        rows: rows(levels, table, runs),
+    }
+}
+
+// Refusal 8: a word length is outside 1 to m.
+pub fn check_length(m: usize, length: usize) -> Refusal
+    ensures { λ r. ⌜ r ≡ refusal (badLength m length ∷ []) ⌝ }
+{
+    if length < 1 {
+        return Refusal::plain(8);
+    }
+    if m < length {
+        return Refusal::plain(8);
+    }
+    Refusal::accepted()
 }
 
 // E_j, for each length j: what a pair of a run with itself adds, since there every column agrees.

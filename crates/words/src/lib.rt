@@ -53,21 +53,9 @@ pub fn words(levels: &[u8], table: &[u8]) -> WordsAnswer
 pub fn word(levels: &[u8], table: &[u8], length: usize) -> WordAnswer
     ensures { λ r. ⌜ (let p = plan (now (levels .entry)) (now (table .entry)) in r ≡ wordAnswer p (everyRun p) (ofPlan p) length) ⌝ }
 {
-    let refused = plan::check(levels, table);
+    let refused = plan::check(levels, table).or_else(inner::check_length(levels.len(), length));
     if refused.number != 0 {
         return WordAnswer { refused, word: 0 };
-    }
-    if length < 1 {
-        return WordAnswer {
-            refused: Refusal::plain(8),
-            word: 0,
-        };
-    }
-    if levels.len() < length {
-        return WordAnswer {
-            refused: Refusal::plain(8),
-            word: 0,
-        };
     }
     let words = inner::words_of_plan(levels, table);
     WordAnswer {
@@ -80,15 +68,10 @@ pub fn word(levels: &[u8], table: &[u8], length: usize) -> WordAnswer
 pub fn row_sums(levels: &[u8], table: &[u8]) -> RowSumsAnswer
     ensures { λ r. ⌜ (let p = plan (now (levels .entry)) (now (table .entry)) in r ≡ rowSumsAnswer p (everyRun p) (ofPlan p)) ⌝ }
 {
-    let refused = plan::check(levels, table);
-    if refused.number != 0 {
-        return RowSumsAnswer {
-            refused,
-            rows: [Sums { sums: [0; 24] }; 256],
-        };
-    }
-    let rows = inner::rows_of_plan(levels, table);
-    RowSumsAnswer { refused, rows }
+    let checked = plan::inner::checked_runs(levels, table);
+    let runs = checked.runs;
+    let count = checked.count;
+    inner::row_sums_answer(checked.refused, levels, table, &runs[..count])
 }
 
 // E_1, E_2, .., of levels alone.

@@ -11,7 +11,6 @@ use Rattle.exact.specs.Lists.{into}
 use Rattle.rules.specs.declared.Refusal.{Refusal}
 use Rattle.rules.specs.Plan.{Plan, everyRun}
 use Rattle.rules.specs.Refusals.{Check, refusal, refuses, unless, accepted, plain, planChecks, ofPlan}
-use Rattle.rules.proofs.Order.{number-most}
 use Rattle.rules.proofs.Ranges.{unless-refused}
 use Rattle.plan.proofs.Checks.{passed-good, plan-refused, plan-passed}
 use Rattle.text.specs.Reader.{filled}
@@ -58,10 +57,6 @@ module _ (p : Plan) (rs room : List ℕ) where
 -- ---- a plan's own text
 
 module _ (p : Plan) (bytes : ℕ) {a : WriteAnswer} (e : a ≡ writeAnswer p (everyRun p) (ofPlan p) bytes) where
-  pub write-number : a .refused .number ≤ 14
-  unfolding writeAnswer
-  write-number = rw e (number-most (ofPlan p (badTextRoom p (everyRun p) bytes ∷ [])))
-
   -- no answer has more bytes than a good plan's text
   pub write-few : a .bytes ≤ mostOfText
   unfolding writeAnswer

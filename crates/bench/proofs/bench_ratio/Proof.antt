@@ -17,16 +17,16 @@ given k = plan (k .before .before .before .args .levels .now) (k .before .before
 of-u64-requires : tie.Need-of-u64-requires
 of-u64-requires c κs = thousandths-small (given c) (c .generalized .ensures)
 
-number-of-requires : tie.Need-number-of-requires
-number-of-requires c κs = ratio-number (given (c .before)) (c .before .generalized .ensures)
+number-or-requires : tie.Need-number-or-requires
+number-or-requires c κs = ratio-number (given (c .before)) (c .before .generalized .ensures)
 
 returns : tie.Need-returns
 unfolding ratioNumber
 returns c =
     let u = c .before .of-u64 in
-    of (c .number-of .result) (c .number-of .ok) ∙ c .number-of .ensures
+    of (c .number-or .result) (c .number-or .ok) ∙ c .number-or .ensures
     ∙ rw (of (u .result) (u .ok), u .ensures, c .before .before .generalized .ensures)
 
 pub bench-ratio-spec : {M : Type 1} → statement M
 bench-ratio-spec =
-    tie.close (tie.spec generalized-requires of-u64-requires number-of-requires returns)
+    tie.close (tie.spec generalized-requires of-u64-requires number-or-requires returns)

@@ -11,8 +11,8 @@ use Rattle.bench.proofs.bench_set_word.Tie as tie
 set-word-by-requires : tie.Need-set-word-by-requires
 set-word-by-requires c κs = search needs
 
-number-of-requires : tie.Need-number-of-requires
-number-of-requires c κs =
+number-or-requires : tie.Need-number-or-requires
+number-or-requires c κs =
     let k = c .before in
     let a = k .before .before .before .before .before .args in
     set-number (plan (a .levels .now) (a .table .now)) (a .f) (a .columns .now) (k .set-word-by .ensures)
@@ -21,8 +21,8 @@ returns : tie.Need-returns
 unfolding setWordNumber
 returns c =
     let k = c .before .before in
-    of (c .number-of .result) (c .number-of .ok) ∙ c .number-of .ensures
+    of (c .number-or .result) (c .number-or .ok) ∙ c .number-or .ensures
     ∙ rw (of (k .set-word-by .result .word) (c .before .struct-told .given .1 .0 .1), k .set-word-by .ensures)
 
 pub bench-set-word-spec : {M : Type 1} → statement M
-bench-set-word-spec = tie.close (tie.spec set-word-by-requires number-of-requires returns)
+bench-set-word-spec = tie.close (tie.spec set-word-by-requires number-or-requires returns)

@@ -1,104 +1,107 @@
 -- `bench::bench_set_words` meets its contract: the refusal's number negated, or the words of all sets added up.
-use mathlib.Core.Path.{_≡_, sym, _∙_, ap, subst⁻¹}
+use mathlib.Core.Path.{_≡_, sym, _∙_, ap}
+use mathlib.Core.List.{[], _∷_}
 use Prim.Native.Nat.{ℕ}
-use native.Mathlib.Omega.{arith}
-use lib.IntN.{pos, negℤ}
-use lib.ListN.{length, take}
+use lib.IntN.{ℤ, pos, negℤ}
 use Rattle.exact.proofs.Bits.{of}
-use Rattle.exact.proofs.Numbers.{length-from}
-use Rattle.rules.specs.Plan.{Plan, plan, runs, level, entry, everyRun, everyColumn}
-use Rattle.rules.proofs.Ranges.{unless-refused, unless-accepted}
-use Rattle.plan.specs.Good.{Good, Sound}
-use Rattle.plan.proofs.Sound.{good-sound}
+use Rattle.rules.specs.Plan.{Plan, plan, columns, level, entry, everyRun, everyColumn}
+use Rattle.rules.specs.Refusals.{refusal, orElse, ofPlan, badSize}
+use Rattle.rules.proofs.Ranges.{unless-refused, unless-accepted, or-neither}
+use Rattle.plan.proofs.CheckedRuns.{checked-fits, checked-long, checked-every, checked-sound, handed-refusal}
 use Rattle.words.specs.Words.{word}
-use Rattle.words.proofs.Answered.{run-front}
-use Rattle.projections.proofs.Answers.{plan-given, size-given}
+use Rattle.projections.proofs.Answers.{size-given}
 use Rattle.bench.specs.Exports.{setWordsNumber}
 use Rattle.bench.proofs.Answers.{size-number}
 use borrow.Author.Needs.{needs}
 use Rattle.bench.proofs.bench_set_words.Statement.{statement}
 use Rattle.bench.proofs.bench_set_words.Tie as tie
 
-module _ (k : tie.After-check-size) where
+checked-runs-requires : tie.Need-checked-runs-requires
+checked-runs-requires c κs = search needs
+
+check-size-requires : tie.Need-check-size-requires
+check-size-requires c κs = search needs
+
+or-else-requires : tie.Need-or-else-requires
+or-else-requires c κs = search needs
+
+module _ (k : tie.After-checked-runs) where
   abbrev given : Plan
   given = plan (k .before .before .before .args .levels .now) (k .before .before .before .args .table .now)
 
   abbrev f : ℕ
   f = k .before .before .before .args .f
 
-check-size-requires : tie.Need-check-size-requires
-check-size-requires c κs = search needs
+  abbrev found : ℤ
+  found = word (level given) (entry given) (everyRun given) (everyColumn given) f
 
-number-of-requires : tie.Need-number-of-requires
-number-of-requires c κs = let k = c .before .before in size-number (given k) (f k) (k .check-size .ensures)
+-- the plan's refusal, or else that of the size
+whole : (o : tie.After-or-else) →
+    let k = o .before .before in o .or-else .result ≡ refusal (ofPlan (given k) (badSize (columns (given k)) (f k) ∷ []))
+whole o =
+    let k = o .before .before in
+    o .or-else .ensures ∙ ap (orElse (k .checked-runs .result .refused)) (o .before .check-size .ensures)
+    ∙ handed-refusal (given k) (k .checked-runs .ensures) (λ rs. badSize (columns (given k)) (f k) ∷ []) tt
+
+number-or-requires : tie.Need-number-or-requires
+number-or-requires c κs = let o = c .before .before in size-number (given (o .before .before)) (f (o .before .before)) (whole o)
 
 returns : tie.Need-returns
 unfolding setWordsNumber
 returns c =
-    let k = c .before .before .before in
-    let r = k .check-size .result in
-    let W = word (level (given k)) (entry (given k)) (everyRun (given k)) (everyColumn (given k)) (f k) in
+    let o = c .before .before .before in
+    let r = o .or-else .result in
     let n = c .before .if1 .taken in
-    rw (← (k .check-size .ensures))
-    (of (c .number-of .result) (c .number-of .ok) ∙ c .number-of .ensures
-    ∙ unless-refused r (negℤ (pos (r .number))) (pos 0) n ∙ sym (unless-refused r (negℤ (pos (r .number))) W n))
+    rw (← (whole o))
+    (of (c .number-or .result) (c .number-or .ok) ∙ c .number-or .ensures
+    ∙ unless-refused r (negℤ (pos (r .number))) (pos 0) n ∙ sym (unless-refused r (negℤ (pos (r .number))) (found (o .before .before)) n))
 
--- the plan and the size passed
-module _ (c : tie.Else1) where
-  abbrev k : tie.After-check-size
-  k = c .before .before
-
-  good : Good (given k)
-  good = plan-given (given k) (f k) (k .check-size .ensures) (c .if1 .left)
-
-div-n : tie.Need-div-n
-div-n c = let G = good c in omega (arith, G .columns-low)
-
-every-run-requires : tie.Need-every-run-requires
-every-run-requires c κs = good c .runs-high
-
-array-share-prefix-numbers : tie.Need-array-share-prefix-numbers
-array-share-prefix-numbers c = omega (arith, good (c .before) .runs-high)
-
-module _ (c : tie.After-numbers) where
-  abbrev passed : tie.Else1
-  passed = c .before .before
-
-  abbrev p : Plan
-  p = given (k passed)
-
-  lent : take (runs p) (c .before .every-run .result) ≡ everyRun p
-  lent = ap (take (runs p)) (c .before .every-run .ensures) ∙ run-front (runs p)
+array-share-prefix-runs : tie.Need-array-share-prefix-runs
+array-share-prefix-runs c =
+    let k = c .before .before .before .before .before in checked-fits (given k) (k .checked-runs .ensures)
 
 slice-aggregate-words-added : tie.Need-slice-aggregate-words-added
-slice-aggregate-words-added c = sym (ap length (lent c) ∙ length-from 0 (runs (p c)))
+slice-aggregate-words-added c =
+    let k = c .before .before .before .before .before .before in checked-long (given k) (k .checked-runs .ensures)
+
+-- neither refuses
+passed : (c : tie.Else1) →
+    let s = c .before .before .before in (s .before .checked-runs .result .refused .number ≡ 0) × (s .check-size .result .number ≡ 0)
+passed c =
+    let o = c .before .before in
+    or-neither (o .before .before .checked-runs .result .refused) (o .before .check-size .result)
+    (ap (λ r. r .number) (sym (o .or-else .ensures)) ∙ c .if1 .left)
 
 words-added-requires : tie.Need-words-added-requires
 words-added-requires c κs =
-    let e = passed c in
-    (subst⁻¹ (Sound (p c)) (lent c) (good-sound (p c) (good e)), size-given (p c) (f (k e)) (k e .check-size .ensures) (e .if1 .left))
+    let e = c .before .before in
+    let s = e .before .before .before in
+    let k = s .before in
+    (checked-sound (given k) (k .checked-runs .ensures) (passed e .0), size-given (columns (given k)) (f k) (s .check-size .ensures) (passed e .1))
 
 returns-2 : tie.Need-returns-2
 unfolding setWordsNumber
 returns-2 c =
-    let e = passed (c .before) in
-    let q = p (c .before) in
-    let r = k e .check-size .result in
-    rw (← (k e .check-size .ensures))
+    let e = c .before .before .before in
+    let o = e .before .before in
+    let k = o .before .before in
+    let p = given k in
+    let r = o .or-else .result in
+    rw (← (whole o))
     (of (c .words-added .result) (c .words-added .ok) ∙ c .words-added .ensures
-    ∙ ap (λ rs. word (level q) (entry q) rs (everyColumn q) (f (k e))) (lent (c .before))
-    ∙ sym (unless-accepted r (negℤ (pos (r .number))) (word (level q) (entry q) (everyRun q) (everyColumn q) (f (k e))) (e .if1 .left)))
+    ∙ ap (λ rs. word (level p) (entry p) rs (everyColumn p) (f k)) (checked-every p (k .checked-runs .ensures) (passed e .0))
+    ∙ sym (unless-accepted r (negℤ (pos (r .number))) (found k) (e .if1 .left)))
 
 pub bench-set-words-spec : {M : Type 1} → statement M
 bench-set-words-spec =
     tie.close
     (tie.spec
+    checked-runs-requires
     check-size-requires
-    number-of-requires
+    or-else-requires
+    number-or-requires
     returns
-    div-n
-    every-run-requires
-    array-share-prefix-numbers
+    array-share-prefix-runs
     slice-aggregate-words-added
     words-added-requires
     returns-2)

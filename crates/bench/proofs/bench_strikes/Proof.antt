@@ -32,24 +32,24 @@ word-requires c κs =
     let times = k .before .before .before .args .times in
     rw (s .strike .ensures, s .before .rounds .ensures, k .«open» .ensures) (call-held (rounds-held (open-held (given k)) times) _)
 
-number-of-requires : tie.Need-number-of-requires
-number-of-requires c κs =
+number-or-requires : tie.Need-number-or-requires
+number-or-requires c κs =
     let w = c .before .before in
     let k = w .before .before .before .before .before in
     word-number (w .before .before .strike .result .held) (k .before .before .before .args .length) (w .word .ensures)
 
-number-of-requires-2 : tie.Need-number-of-requires-2
-number-of-requires-2 c κs =
+number-or-requires-2 : tie.Need-number-or-requires-2
+number-or-requires-2 c κs =
     let k = c .before .before .before .before .before .before .before .before in open-number (given k) (k .«open» .ensures)
 
 returns : tie.Need-returns
 unfolding strikesNumber
 returns c =
-    let n = c .before .number-of in
+    let n = c .before .number-or in
     let w = c .before .before .before .before in
     let s = w .before .before in
     let k = s .before .before .before in
-    of (c .number-of2 .result) (c .number-of2 .ok) ∙ c .number-of2 .ensures
+    of (c .number-or2 .result) (c .number-or2 .ok) ∙ c .number-or2 .ensures
     ∙ rw (
       of (n .result) (n .ok),
       n .ensures,
@@ -68,6 +68,6 @@ bench-strikes-spec =
     rounds-requires
     strike-requires
     word-requires
-    number-of-requires
-    number-of-requires-2
+    number-or-requires
+    number-or-requires-2
     returns)

@@ -28,8 +28,8 @@ of-size-requires c κs =
     let k = c .before .before .before .before .before .before in
     omega (arith, lines-within (given k) _ _ (lent k) (k .frequencies .ensures .0), start k .good)
 
-number-of-requires : tie.Need-number-of-requires
-number-of-requires c κs =
+number-or-requires : tie.Need-number-or-requires
+number-or-requires c κs =
     let k = c .before .before .before .before .before .before .before in
     table-number (given k) _ _ (lent k) (k .frequencies .ensures .0)
 
@@ -47,7 +47,7 @@ unfolding tableNumber
 returns c =
     let k = c .before .before .before .before .before .before .before .before in
     let s = c .before .of-size in (
-      of (c .number-of .result) (c .number-of .ok) ∙ c .number-of .ensures
+      of (c .number-or .result) (c .number-or .ok) ∙ c .number-or .ensures
           ∙ rw (of (s .result) (s .ok), s .ensures, k .frequencies .ensures .0),
       k .frequencies .ensures .1,
     )
@@ -58,7 +58,7 @@ bench-table-spec =
     (tie.spec
     frequencies-requires
     of-size-requires
-    number-of-requires
+    number-or-requires
     same-length
     same-length-2
     same-length-3

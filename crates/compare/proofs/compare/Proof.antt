@@ -1,66 +1,47 @@
--- `compare::compare` meets its contract: it makes the tests of the definition, in their order.
-use mathlib.Core.Path.{refl, _∙_, ap}
+-- `compare::compare` meets its contract: the routine is handed each plan's refusal, words and numbers of runs and columns.
+use mathlib.Core.Path.{sym, _∙_}
+use Rattle.rules.specs.Plan.{Plan, plan, everyRun}
+use Rattle.rules.specs.Refusals.{ofPlan}
+use Rattle.compare.proofs.Sides.{side-sided, sides-compared, whole-refusal, whole-side}
 use borrow.Author.Needs.{needs}
-use Rattle.rules.specs.Plan.{Plan, plan}
-use Rattle.plan.proofs.Checks.{passed-good}
-use Rattle.compare.specs.declared.Comparison.the-variants.{Compared}
-use Rattle.compare.proofs.Answered.{first-refused, second-refused, columns-differ, columns-agree}
 use Rattle.compare.proofs.compare.Statement.{statement}
 use Rattle.compare.proofs.compare.Tie as tie
 
 -- the two plans given
-module _ (k : tie.After-check) where
+module _ (k : tie.After-side-of) where
   abbrev plan-1 : Plan
   plan-1 = let s = k .before .before .before .before .before .args in plan (s .levels1 .now) (s .table1 .now)
 
   abbrev plan-2 : Plan
   plan-2 = let s = k .before .before .before .before .before .args in plan (s .levels2 .now) (s .table2 .now)
 
-check-requires : tie.Need-check-requires
-check-requires c κs = search needs
+side-of-requires : tie.Need-side-of-requires
+side-of-requires c κs = search needs
 
-returns : tie.Need-returns
-returns c = let k = c .before .before in first-refused (plan-1 k) (plan-2 k) (k .check .ensures) refl (c .if1 .taken)
+side-of-requires-2 : tie.Need-side-of-requires-2
+side-of-requires-2 c κs = search needs
 
-check-requires-2 : tie.Need-check-requires-2
-check-requires-2 c κs = search needs
-
-returns-2 : tie.Need-returns-2
-returns-2 c =
-    let k₂ = c .before .before in
-    let k = k₂ .before .before .before in
-    second-refused (plan-1 k) (plan-2 k) (k .check .ensures) (k₂ .check2 .ensures) (k₂ .before .if1 .left) (c .if2 .taken)
-
-returns-3 : tie.Need-returns-3
-returns-3 c =
-    let k₂ = c .before .before .before in
-    let k = k₂ .before .before .before in
-    columns-differ (plan-1 k) (plan-2 k) (k .check .ensures) (k₂ .check2 .ensures) (k₂ .before .if1 .left) (c .before .if2 .left) (c .if3 .taken)
-
-compare-accepted-requires : tie.Need-compare-accepted-requires
-compare-accepted-requires c κs =
-    let k₂ = c .before .before .before in
-    let k = k₂ .before .before .before in (
-      passed-good (plan-1 k) (k .check .ensures) (k₂ .before .if1 .left),
-      (passed-good (plan-2 k) (k₂ .check2 .ensures) (c .before .if2 .left), c .if3 .left),
+compare-answer-requires : tie.Need-compare-answer-requires
+compare-answer-requires c κs =
+    let k = c .before in
+    let p = plan-1 k in
+    let q = plan-2 k in (
+      side-sided p (everyRun p) (k .side-of .result) (whole-side p (k .side-of .ensures)),
+      side-sided q (everyRun q) (c .side-of2 .result) (whole-side q (c .side-of2 .ensures)),
     )
 
-returns-4 : tie.Need-returns-4
-returns-4 c =
-    let e = c .before in
-    let k₂ = e .before .before .before in
-    let k = k₂ .before .before .before in
-    ap Compared (c .compare-accepted .ensures)
-    ∙ columns-agree (plan-1 k) (plan-2 k) (k .check .ensures) (k₂ .check2 .ensures) (k₂ .before .if1 .left) (e .before .if2 .left) (e .if3 .left)
+returns : tie.Need-returns
+returns c =
+    let b = c .before in
+    let a = b .before in
+    let p = plan-1 a in
+    let q = plan-2 a in
+    let e = a .side-of .ensures in
+    let f = b .side-of2 .ensures in
+    c .compare-answer .ensures
+    ∙ sides-compared p (everyRun p) (a .side-of .result) (whole-side p e) q (everyRun q) (b .side-of2 .result) (whole-side q f)
+    (ofPlan p) (ofPlan q) (sym (whole-refusal p e)) (sym (whole-refusal q f))
 
 pub compare-spec : {M : Type 1} → statement M
 compare-spec =
-    tie.close
-    (tie.spec
-    check-requires
-    returns
-    check-requires-2
-    returns-2
-    returns-3
-    compare-accepted-requires
-    returns-4)
+    tie.close (tie.spec side-of-requires side-of-requires-2 compare-answer-requires returns)

@@ -1,14 +1,18 @@
--- `frequencies::frequencies` meets its contract: a refusal is that of the plan or the size, and then of the rooms alone.
+-- `frequencies::frequencies` meets its contract: the routine is handed the plan's refusal and all its runs.
+use mathlib.Core.Path.{_∙_}
 use mathlib.Core.List.{List}
-use Rattle.rules.specs.Plan.{Plan, plan, everyRun}
-use Rattle.frequencies.specs.Frequencies.{Line, Rooms, rooms, tableIn}
-use Rattle.projections.proofs.Answers.{plan-given, size-given}
-use Rattle.frequencies.proofs.Answers.{table-refused, table-passed}
+use Prim.Native.Nat.{ℕ}
+use lib.ListN.{length}
+use Rattle.rules.specs.Plan.{Plan, plan, columns}
+use Rattle.rules.specs.Refusals.{Check}
+use Rattle.plan.proofs.CheckedRuns.{checked-fits, checked-long, handed-answer}
+use Rattle.projections.proofs.Answers.{checked-tabled}
+use Rattle.frequencies.specs.Frequencies.{Line, Rooms, rooms, filled, tableIn, tableChecks, tableAnswer, tableRooms}
 use borrow.Author.Needs.{needs}
 use Rattle.frequencies.proofs.frequencies.Statement.{statement}
 use Rattle.frequencies.proofs.frequencies.Tie as tie
 
-module _ (k : tie.After-check-size) where
+module _ (k : tie.After-checked-runs) where
   abbrev start : tie.Start
   start = k .before .before .before .before .before .before
 
@@ -18,26 +22,23 @@ module _ (k : tie.After-check-size) where
   abbrev lent : Rooms
   lent = rooms (start .args .nums .now) (start .args .dens .now) (start .args .counts .now)
 
-  abbrev lines : List Line
-  lines = tableIn (start .args .relative) given (everyRun given) (start .args .f)
+  abbrev lines : List ℕ → List Line
+  lines rs = tableIn (start .args .relative) given rs (start .args .f)
 
-check-size-requires : tie.Need-check-size-requires
-check-size-requires c κs = search needs
+  abbrev checks : List ℕ → List Check
+  checks rs = tableChecks (columns given) (start .args .f) (lines rs) lent
 
-no-table-requires : tie.Need-no-table-requires
-no-table-requires c κs = search needs
+checked-runs-requires : tie.Need-checked-runs-requires
+checked-runs-requires c κs = search needs
 
-returns : tie.Need-returns
-returns c =
-    let k = c .before .before .before in
-    rw (c .no-table .ensures) (table-refused (given k) (start k .args .f) (k .check-size .ensures) (lines k) (lent k) (c .before .if1 .taken))
+array-share-prefix-runs : tie.Need-array-share-prefix-runs
+array-share-prefix-runs c = let k = c .before in checked-fits (given k) (k .checked-runs .ensures)
 
-frequencies-of-plan-requires : tie.Need-frequencies-of-plan-requires
-frequencies-of-plan-requires c κs =
-    let k = c .before .before .before .before .before in
-    let z = c .before .before .before .if1 .left in
-    let f = start k .args .f in
-    (plan-given (given k) f (k .check-size .ensures) z, size-given (given k) f (k .check-size .ensures) z)
+slice-aggregate-table-answer : tie.Need-slice-aggregate-table-answer
+slice-aggregate-table-answer c = let k = c .before .before in checked-long (given k) (k .checked-runs .ensures)
+
+table-answer-requires : tie.Need-table-answer-requires
+table-answer-requires c κs z = let k = c .before .before .before .before .before in checked-tabled (given k) (k .checked-runs .ensures) z
 
 same-length : tie.Need-same-length
 same-length c = search needs
@@ -48,22 +49,25 @@ same-length-2 c = search needs
 same-length-3 : tie.Need-same-length-3
 same-length-3 c = search needs
 
-returns-2 : tie.Need-returns-2
-returns-2 c =
-    let q = c .before .before .before .before .before .before in
-    let k = q .before .before .before .before .before .before in
-    let passed = table-passed (given k) (start k .args .f) (k .check-size .ensures) (lines k) (lent k) (q .before .before .before .before .if1 .left) in
-    rw (q .frequencies-of-plan .ensures .0, q .frequencies-of-plan .ensures .1) passed
+returns : tie.Need-returns
+unfolding tableAnswer tableRooms
+returns c =
+    let t = c .before .before .before .before .before .before in
+    let k = t .before .before .before .before .before .before in
+    let e = k .checked-runs .ensures in (
+      t .table-answer .ensures .0 ∙ handed-answer (given k) e (checks k) tt (λ r n. record { refused = r; lines = n }) 0 (λ rs. length (lines k rs)),
+      t .table-answer .ensures .1 ∙ handed-answer (given k) e (checks k) tt (λ r R. R) (lent k) (λ rs. filled (lines k rs) (lent k)),
+    )
 
 pub frequencies-spec : {M : Type 1} → statement M
 frequencies-spec =
     tie.close
     (tie.spec
-    check-size-requires
-    no-table-requires
-    returns
-    frequencies-of-plan-requires
+    checked-runs-requires
+    array-share-prefix-runs
+    slice-aggregate-table-answer
+    table-answer-requires
     same-length
     same-length-2
     same-length-3
-    returns-2)
+    returns)

@@ -1,59 +1,38 @@
 -- `planner::crumb_listing` meets its contract: it is the library's answer, with a refusal's number negated.
 use borrow.Author.Needs.{needs}
-use mathlib.Core.Path.{sym, _∙_}
-use mathlib.Core.List.{List}
-use Prim.Native.Nat.{ℕ}
+use mathlib.Core.Path.{_∙_}
 use Rattle.exact.proofs.Bits.{of}
-use Rattle.planner.proofs.Answers.{room-number-small, listing-refused, listing-bytes}
+use Rattle.report.specs.Listing.{plannerListing}
+use Rattle.planner.specs.Calls.{listed}
+use Rattle.planner.proofs.Calls.{call-number}
 use Rattle.planner.proofs.crumb_listing.Statement.{statement}
 use Rattle.planner.proofs.crumb_listing.Tie as tie
-
-abbrev textAt : tie.After-listing → List ℕ
-textAt k = k .before .before .before .before .args .text .now
-
-abbrev roomAt : tie.After-listing → List ℕ
-roomAt k = k .before .before .before .before .args .room .now
 
 listing-requires : tie.Need-listing-requires
 listing-requires c κs = search needs
 
-negated-requires : tie.Need-negated-requires
-negated-requires c κs =
-    let k = c .before .before .before in room-number-small (textAt k) (roomAt k) (k .listing .result) (k .listing .ensures .0)
+of-size-requires : tie.Need-of-size-requires
+of-size-requires c κs = search needs
+
+number-or-requires : tie.Need-number-or-requires
+number-or-requires c κs =
+    let k = c .before .before .before .before in
+    let a = k .before .before .before .before .args in
+    rw (k .listing .ensures .0) (call-number (listed (a .text .now) (a .room .now)))
 
 same-length : tie.Need-same-length
 same-length c = search needs
 
 returns : tie.Need-returns
+unfolding plannerListing
 returns c =
-    let k = c .before .before .before .before in (
-      of (c .negated .result) (c .negated .ok) ∙ c .negated .ensures
-          ∙ sym (listing-refused (textAt k) (roomAt k) (k .listing .result) (k .listing .ensures .0) (c .before .if1 .taken)),
-      k .listing .ensures .1 .0,
-    )
-
-of-size-requires : tie.Need-of-size-requires
-of-size-requires c κs = search needs
-
-same-length-2 : tie.Need-same-length-2
-same-length-2 c = search needs
-
-returns-2 : tie.Need-returns-2
-returns-2 c =
-    let k = c .before .before .before .before in (
-      of (c .of-size .result) (c .of-size .ok) ∙ c .of-size .ensures
-          ∙ sym (listing-bytes (textAt k) (roomAt k) (k .listing .result) (k .listing .ensures .0) (c .before .if1 .left)),
+    let k = c .before .before .before .before .before in
+    let s = c .before .of-size in (
+      of (c .number-or .result) (c .number-or .ok) ∙ c .number-or .ensures ∙ rw (of (s .result) (s .ok), s .ensures, k .listing .ensures .0),
       k .listing .ensures .1 .0,
     )
 
 pub crumb-listing-spec : {M : Type 1} → statement M
 crumb-listing-spec =
     tie.close
-    (tie.spec
-    listing-requires
-    negated-requires
-    same-length
-    returns
-    of-size-requires
-    same-length-2
-    returns-2)
+    (tie.spec listing-requires of-size-requires number-or-requires same-length returns)

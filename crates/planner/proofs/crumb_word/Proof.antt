@@ -1,35 +1,29 @@
 -- `planner::crumb_word` meets its contract: it is the library's answer for the length, with a refusal's number negated.
-use mathlib.Core.Path.{sym, _∙_}
+use mathlib.Core.Path.{_∙_}
 use borrow.Author.Needs.{needs}
 use Rattle.exact.proofs.Bits.{of}
-use Rattle.rules.specs.Plan.{Plan, plan}
-use Rattle.planner.proofs.Answers.{number-small, planner-refused, planner-word}
+use Rattle.rules.specs.Plan.{plan}
+use Rattle.words.specs.Answers.{plannerWord}
+use Rattle.planner.specs.Calls.{of-plan, word, asked}
+use Rattle.planner.proofs.Calls.{call-number}
 use Rattle.planner.proofs.crumb_word.Statement.{statement}
 use Rattle.planner.proofs.crumb_word.Tie as tie
-
--- the plan that was asked about
-abbrev given : tie.After-word → Plan
-given k = plan (k .before .before .before .args .levels .now) (k .before .before .before .args .table .now)
 
 word-requires : tie.Need-word-requires
 word-requires c κs = search needs
 
-negated-requires : tie.Need-negated-requires
-negated-requires c κs =
-    let k = c .before in
-    number-small (given k) (k .before .before .before .args .length) (k .word .result) (k .word .ensures)
+number-or-requires : tie.Need-number-or-requires
+number-or-requires c κs =
+    let k = c .before .before in
+    let a = k .before .before .before .args in
+    rw (k .word .ensures) (call-number (asked (of-plan (plan (a .levels .now) (a .table .now))) (word (a .length))))
 
 returns : tie.Need-returns
+unfolding plannerWord
 returns c =
-    let k = c .before .before in
-    of (c .negated .result) (c .negated .ok) ∙ c .negated .ensures
-    ∙ sym (planner-refused (given k) (k .before .before .before .args .length) (k .word .result) (k .word .ensures) (c .before .if1 .taken))
-
-returns-2 : tie.Need-returns-2
-returns-2 c =
-    let k = c .before .before in
-    of (k .word .result .word) (c .struct-told .given .1 .0 .1)
-    ∙ sym (planner-word (given k) (k .before .before .before .args .length) (k .word .result) (k .word .ensures) (c .before .if1 .left))
+    let k = c .before .before .before in
+    of (c .number-or .result) (c .number-or .ok) ∙ c .number-or .ensures
+    ∙ rw (of (k .word .result .word) (c .before .struct-told .given .1 .0 .1), k .word .ensures)
 
 pub crumb-word-spec : {M : Type 1} → statement M
-crumb-word-spec = tie.close (tie.spec word-requires negated-requires returns returns-2)
+crumb-word-spec = tie.close (tie.spec word-requires number-or-requires returns)

@@ -5,28 +5,36 @@ use native.Mathlib.Omega.{arith}
 use lib.ListN.{length}
 use Rattle.exact.proofs.Bits.{of}
 use Rattle.rules.specs.Plan.{plan}
-use Rattle.writer.proofs.Writes.{write-number, write-few}
+use Rattle.writer.proofs.Writes.{write-few}
+use Rattle.planner.specs.Calls.{written}
+use Rattle.planner.proofs.Calls.{call-number}
 use Rattle.planner.proofs.crumb_write.Statement.{statement}
 use Rattle.planner.proofs.crumb_write.Tie as tie
 
 write-requires : tie.Need-write-requires
 write-requires c κs = search needs
 
-bytes-or-requires : tie.Need-bytes-or-requires
-bytes-or-requires c κs =
-    let w = c .before .before .write in
-    let a = c .before .before .before .before .before .before .before .args in
-    let p = plan (a .levels .now) (a .table .now) in
-    let e = w .ensures .0 in
-    (write-number p (length (a .room .now)) e, omega (arith, write-few p (length (a .room .now)) e))
+of-size-requires : tie.Need-of-size-requires
+of-size-requires c κs =
+    let k = c .before .before .before in
+    let a = k .before .before .before .before .before .args in
+    omega (arith, write-few (plan (a .levels .now) (a .table .now)) (length (a .room .now)) (k .write .ensures .0))
+
+number-or-requires : tie.Need-number-or-requires
+number-or-requires c κs =
+    let k = c .before .before .before .before in
+    let a = k .before .before .before .before .before .args in
+    rw (k .write .ensures .0) (call-number (written (plan (a .levels .now) (a .table .now)) (length (a .room .now))))
 
 same-length : tie.Need-same-length
 same-length c = search needs
 
 returns : tie.Need-returns
 returns c =
-    let w = c .before .before .before .write in
-    rw (← (w .ensures .0)) (of (c .bytes-or .result) (c .bytes-or .ok) ∙ c .bytes-or .ensures, w .ensures .1)
+    let w = c .before .before .before .before .before .write in
+    let s = c .before .of-size in
+    rw (← (w .ensures .0)) (of (c .number-or .result) (c .number-or .ok) ∙ c .number-or .ensures ∙ rw (of (s .result) (s .ok), s .ensures), w .ensures .1)
 
 pub crumb-write-spec : {M : Type 1} → statement M
-crumb-write-spec = tie.close (tie.spec write-requires bytes-or-requires same-length returns)
+crumb-write-spec =
+    tie.close (tie.spec write-requires of-size-requires number-or-requires same-length returns)

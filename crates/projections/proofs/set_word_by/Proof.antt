@@ -1,58 +1,54 @@
--- `projections::set_word_by` meets its contract: a refusal is that of the plan, the size or the set, and beside none stands W(I).
-use mathlib.Core.Path.{sym}
-use mathlib.Core.List.{List}
-use Prim.Native.Nat.{ℕ}
+-- `projections::set_word_by` meets its contract: the routine is handed the plan's refusal and all its runs.
+use mathlib.Core.Path.{_∙_}
 use lib.IntN.{ℤ, pos}
-use Rattle.exact.proofs.Bits.{of}
 use Rattle.rules.specs.declared.Refusal.{Refusal}
-use Rattle.rules.specs.Plan.{Plan, plan, level, entry, everyRun}
-use Rattle.plan.proofs.Answers.{answer-refused, answer-accepted}
+use Rattle.rules.specs.Plan.{Plan, plan, level, entry}
+use Rattle.plan.proofs.CheckedRuns.{checked-fits, checked-long, checked-sound, handed-answer}
 use Rattle.words.specs.Words.{wordOf}
 use Rattle.projections.specs.declared.SetWordAnswer.{SetWordAnswer}
-use Rattle.projections.specs.Projections.{setWordAnswer}
-use Rattle.projections.proofs.Answers.{set-plan, set-few, set-given}
+use Rattle.projections.specs.Projections.{setWordChecks, setWordAnswer}
 use borrow.Author.Needs.{needs}
 use Rattle.projections.proofs.set_word_by.Statement.{statement}
 use Rattle.projections.proofs.set_word_by.Tie as tie
 
--- the answer, of a refusal and the word beside it
 abbrev make : Refusal → ℤ → SetWordAnswer
 make r x = record { refused = r; word = x }
 
-module _ (k : tie.After-check-set) where
+module _ (k : tie.After-checked-runs) where
+  abbrev start : tie.Start
+  start = k .before .before .before .before
+
   abbrev given : Plan
-  given = plan (k .before .before .before .before .args .levels .now) (k .before .before .before .before .args .table .now)
+  given = plan (start .args .levels .now) (start .args .table .now)
 
-  abbrev f : ℕ
-  f = k .before .before .before .before .args .f
+checked-runs-requires : tie.Need-checked-runs-requires
+checked-runs-requires c κs = search needs
 
-  abbrev I : List ℕ
-  I = k .before .before .before .before .args .columns .now
+array-share-prefix-runs : tie.Need-array-share-prefix-runs
+array-share-prefix-runs c = let k = c .before in checked-fits (given k) (k .checked-runs .ensures)
 
-  abbrev W : ℤ
-  W = wordOf (level given) (entry given) (everyRun given) I
+slice-aggregate-set-word-answer : tie.Need-slice-aggregate-set-word-answer
+slice-aggregate-set-word-answer c = let k = c .before .before in checked-long (given k) (k .checked-runs .ensures)
 
-check-set-requires : tie.Need-check-set-requires
-check-set-requires c κs = search needs
+set-word-answer-requires : tie.Need-set-word-answer-requires
+set-word-answer-requires c κs z = let k = c .before .before in checked-sound (given k) (k .checked-runs .ensures) z
 
 returns : tie.Need-returns
 unfolding setWordAnswer
-returns c = let k = c .before .before in answer-refused make (pos 0) (W k) (sym (k .check-set .ensures)) (c .if1 .taken)
-
-set-word-of-plan-requires : tie.Need-set-word-of-plan-requires
-set-word-of-plan-requires c κs =
-    let k = c .before .before in
-    let e = k .check-set .ensures in
-    let z = c .if1 .left in
-    (set-plan (given k) (f k) (I k) e z, (set-given (given k) (f k) (I k) e z, set-few (given k) (f k) (I k) e z))
-
-returns-2 : tie.Need-returns-2
-unfolding setWordAnswer
-returns-2 c =
+returns c =
     let k = c .before .before .before in
-    rw (of (c .set-word-of-plan .result) (c .set-word-of-plan .ok), c .set-word-of-plan .ensures)
-    (answer-accepted make (pos 0) (W k) (sym (k .check-set .ensures)) (c .before .if1 .left))
+    let p = given k in
+    let a = start k .args in
+    c .set-word-answer .ensures
+    ∙ handed-answer p (k .checked-runs .ensures) (λ rs. setWordChecks p (a .f) (a .columns .now)) tt make (pos 0)
+    (λ rs. wordOf (level p) (entry p) rs (a .columns .now))
 
 pub set-word-by-spec : {M : Type 1} → statement M
 set-word-by-spec =
-    tie.close (tie.spec check-set-requires returns set-word-of-plan-requires returns-2)
+    tie.close
+    (tie.spec
+    checked-runs-requires
+    array-share-prefix-runs
+    slice-aggregate-set-word-answer
+    set-word-answer-requires
+    returns)

@@ -1,28 +1,25 @@
--- `resolution::column_figure` meets its contract: the rating of a plan and a column holds what the column's figure is made of.
+-- `resolution::column_figure` meets its contract: the rating of a plan holds what the column's figure is made of.
 use mathlib.Core.Path.{_∙_, ap}
-use Rattle.rules.specs.Plan.{Plan, plan, everyRun}
-use Rattle.rules.specs.Refusals.{ofPlan}
+use Rattle.rules.specs.Plan.{Plan, plan}
 use Rattle.resolution.specs.Given.{figureFrom}
-use Rattle.resolution.proofs.Answered.{figure-is}
-use Rattle.resolution.proofs.Planned.{column-small}
+use Rattle.resolution.proofs.WholePlan.{whole-small, whole-figure}
 use borrow.Author.Needs.{needs}
 use Rattle.resolution.proofs.column_figure.Statement.{statement}
 use Rattle.resolution.proofs.column_figure.Tie as tie
 
-rate-plan-requires : tie.Need-rate-plan-requires
-rate-plan-requires c κs = search needs
-
 abbrev given : tie.After-shared-slice-known2 → Plan
 given c = plan (c .before .before .args .levels .now) (c .before .before .args .table .now)
 
+rate-plan-requires : tie.Need-rate-plan-requires
+rate-plan-requires c κs = search needs
+
 figure-of-requires : tie.Need-figure-of-requires
-figure-of-requires c κs = rw (c .rate-plan .ensures) (column-small (given (c .before)) (c .before .before .before .args .column))
+figure-of-requires c κs = rw (c .rate-plan .ensures) (whole-small (given (c .before)) (c .before .before .before .args .column))
 
 returns : tie.Need-returns
 returns c =
-    let p = given (c .before .before) in
-    c .figure-of .ensures ∙ ap figureFrom (c .before .rate-plan .ensures)
-    ∙ figure-is p (everyRun p) (ofPlan p) (c .before .before .before .before .args .column)
+    let k = c .before .before in
+    c .figure-of .ensures ∙ ap figureFrom (c .before .rate-plan .ensures) ∙ whole-figure (given k) (k .before .before .args .column)
 
 pub column-figure-spec : {M : Type 1} → statement M
 column-figure-spec = tie.close (tie.spec rate-plan-requires figure-of-requires returns)

@@ -1,78 +1,63 @@
--- `sets::place` meets its contract: each return is the answer by the checks that led there.
-use mathlib.Core.Path.{_≡_, _∙_, sym, ap}
+-- `sets::place` meets its contract: past the checks m is at most 24 and the columns are a set.
+use mathlib.Core.Path.{_≡_, sym, _∙_, ap}
 use borrow.Author.Needs.{needs}
-use borrow.Author.Tests.{ne-eqb, eq-eqb, not-true, not-false}
-use Rattle.exact.proofs.Tests.{true-is}
-use mathlib.Core.Bool.{true}
-use Rattle.rules.specs.Refusals.{isSet}
-use Rattle.sets.proofs.Questions.{sizes-within, placed, place-stopped, place-wrong, place-found}
+use Rattle.rules.specs.Refusals.{refusal}
+use Rattle.rules.proofs.Ranges.{unless-refused, unless-accepted, or-neither}
+use Rattle.sets.specs.Sets.{placeChecks, placeOf, placeAnswer}
+use Rattle.sets.proofs.Questions.{sizes-passed, set-passed, place-refusal}
 use Rattle.sets.proofs.place.Statement.{statement}
 use Rattle.sets.proofs.place.Tie as tie
 
 check-sizes-requires : tie.Need-check-sizes-requires
 check-sizes-requires c κs = search needs
 
+check-set-requires : tie.Need-check-set-requires
+check-set-requires c κs = search needs
+
+or-else-requires : tie.Need-or-else-requires
+or-else-requires c κs = search needs
+
+module _ (o : tie.After-or-else) where
+  abbrev start : tie.Start
+  start = o .before .before .before .before
+
+  whole : let a = start .args in o .or-else .result ≡ refusal (placeChecks (a .m) (a .f) (a .columns .now))
+  whole =
+      let a = start .args in
+      place-refusal (a .m) (a .f) (a .columns .now) (o .or-else .ensures) (o .before .before .check-sizes .ensures) (o .before .check-set .ensures)
+
 returns : tie.Need-returns
+unfolding placeAnswer
 returns c =
-    let s = c .before .before in
-    let a = s .before .before .args in
-    place-stopped (a .m) (a .f) (a .columns .now) (s .check-sizes .result) (s .check-sizes .ensures) (c .if1 .taken)
-
-plain-requires : tie.Need-plain-requires
-plain-requires c κs = search needs
-
-returns-2 : tie.Need-returns-2
-returns-2 c =
-    let n = c .before .before in
-    let s = n .before .before in
-    let a = s .before .before .args in
-    ap (λ r. placed r 0) (c .plain .ensures)
-    ∙ place-wrong (a .m) (a .f) (a .columns .now) (s .check-sizes .result) (s .check-sizes .ensures) (n .if1 .left) (rw (ne-eqb _ _ (c .before .if2 .taken)))
-
-is-set-requires : tie.Need-is-set-requires
-is-set-requires c κs = search needs
-
-plain-requires-2 : tie.Need-plain-requires-2
-plain-requires-2 c κs = search needs
-
-returns-3 : tie.Need-returns-3
-returns-3 c =
-    let i = c .before .before in
-    let n = i .before .before in
-    let s = n .before .before in
-    let a = s .before .before .args in
-    ap (λ r. placed r 0) (c .plain2 .ensures)
-    ∙ place-wrong (a .m) (a .f) (a .columns .now) (s .check-sizes .result) (s .check-sizes .ensures) (n .if1 .left)
-    (rw (eq-eqb _ _ (i .before .if2 .left)) (sym (i .is-set .ensures) ∙ not-true _ (c .before .if3 .taken)))
-
-is-set : (c : tie.Else3) → let a = c .before .before .before .before .before .before .before .args in isSet (a .m) (a .columns .now) ≡ true
-is-set c = sym (c .before .is-set .ensures) ∙ not-false _ (c .if3 .left)
+    let o = c .before .before in
+    let a = start o .args in
+    rw (← (whole o)) (ap (λ k. record { refused = o .or-else .result; place = k })
+    (sym (unless-refused (o .or-else .result) 0 (placeOf (a .m) (a .columns .now)) (c .if1 .taken))))
 
 place-requires : tie.Need-place-requires
 place-requires c κs =
-    let s = c .before .before .before .before .before in
-    let a = s .before .before .args in
-    (sizes-within (a .m) (a .f) (s .check-sizes .result) (s .check-sizes .ensures) (c .before .before .before .if1 .left) .0, true-is _ (is-set c))
+    let o = c .before .before in
+    let a = start o .args in
+    let s = o .before .before .check-sizes in
+    let k = o .before .check-set in
+    let (y, z) = or-neither (s .result) (k .result) (ap (λ r. r .number) (sym (o .or-else .ensures)) ∙ c .if1 .left) in
+    (sizes-passed (a .m) (a .f) (s .ensures) y .0, set-passed (a .m) (a .f) (a .columns .now) (k .ensures) z .1)
 
-returns-4 : tie.Need-returns-4
-returns-4 c =
-    let i = c .before .before in
-    let n = i .before .before in
-    let s = n .before .before in
-    let a = s .before .before .args in
-    ap (placed (s .check-sizes .result)) (c .place .ensures)
-    ∙ place-found (a .m) (a .f) (a .columns .now) (s .check-sizes .result) (s .check-sizes .ensures) (n .if1 .left) (i .before .if2 .left) (is-set (c .before))
+returns-2 : tie.Need-returns-2
+unfolding placeAnswer
+returns-2 c =
+    let o = c .before .before .before in
+    let a = start o .args in
+    rw (← (whole o)) (ap (λ k. record { refused = o .or-else .result; place = k })
+    (c .place .ensures ∙ sym (unless-accepted (o .or-else .result) 0 (placeOf (a .m) (a .columns .now)) (c .before .if1 .left))))
 
 pub place-spec : {M : Type 1} → statement M
 place-spec =
     tie.close
     (tie.spec
     check-sizes-requires
+    check-set-requires
+    or-else-requires
     returns
-    plain-requires
-    returns-2
-    is-set-requires
-    plain-requires-2
-    returns-3
     place-requires
-    returns-4)
+    returns-2)

@@ -5,7 +5,7 @@ use Prim.Native.Nat.{_≤_, _<_}
 use native.Mathlib.Omega.{arith}
 use borrow.Author.Needs.{needs}
 use Rattle.sets.specs.Sets.{binom}
-use Rattle.sets.proofs.Questions.{sizes-within, chosen, set-stopped, set-past, set-found, four-columns}
+use Rattle.sets.proofs.Questions.{sizes-passed, chosen, set-stopped, set-past, set-found, four-columns}
 use Rattle.sets.proofs.set_at.Statement.{statement}
 use Rattle.sets.proofs.set_at.Tie as tie
 
@@ -16,12 +16,12 @@ returns : tie.Need-returns
 returns c =
     let s = c .before .before in
     let a = s .before .args in
-    set-stopped (a .m) (a .f) (a .k) (s .check-sizes .result) (s .check-sizes .ensures) (c .if1 .taken)
+    set-stopped (a .m) (a .f) (a .k) (s .check-sizes .ensures) (c .if1 .taken)
 
 -- past the first two checks
 within : (c : tie.Else1) → let a = c .before .before .before .args in (a .m ≤ 24) × (a .f ≤ 4) × (a .f ≤ a .m)
 within c =
-    let s = c .before .before in sizes-within (s .before .args .m) (s .before .args .f) (s .check-sizes .result) (s .check-sizes .ensures) (c .if1 .left)
+    let s = c .before .before in sizes-passed (s .before .args .m) (s .before .args .f) (s .check-sizes .ensures) (c .if1 .left)
 
 binomial-requires : tie.Need-binomial-requires
 binomial-requires c κs = omega (arith, within c)
@@ -35,7 +35,7 @@ returns-2 c =
     let s = b .before .before .before in
     let a = s .before .args in
     ap (λ r. chosen r []) (c .plain .ensures)
-    ∙ set-past (a .m) (a .f) (a .k) (s .check-sizes .result) (s .check-sizes .ensures) (b .before .if1 .left)
+    ∙ set-past (a .m) (a .f) (a .k) (s .check-sizes .ensures) (b .before .if1 .left)
     (rw (b .binomial .ensures) at (c .before .if2 .taken))
 
 -- past the third
@@ -64,7 +64,7 @@ returns-3 c =
     let a = s .before .args in
     ap (λ l. record { refused = s .check-sizes .result; columns = l })
     (four-columns (a .m) (a .f) (a .k) (c .set-at .result) (within n .1) (below (c .before)) (c .set-at .ensures))
-    ∙ set-found (a .m) (a .f) (a .k) (s .check-sizes .result) (s .check-sizes .ensures) (n .if1 .left) (below (c .before))
+    ∙ set-found (a .m) (a .f) (a .k) (s .check-sizes .ensures) (n .if1 .left) (below (c .before))
 
 pub set-at-spec : {M : Type 1} → statement M
 set-at-spec =

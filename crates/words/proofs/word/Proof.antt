@@ -1,9 +1,8 @@
 -- `words::word` meets its contract: a refusal is the plan's, or that of the length, and beside none stands the word.
 use borrow.Author.Needs.{needs}
-use borrow.Author.Tests.{lt-ltb, le-ltb}
-use mathlib.Core.Path.{_≡_, _∙_, ap}
-use mathlib.Core.List.{List, [], _∷_}
-use Prim.Native.Nat.{ℕ, _-_, _<_}
+use mathlib.Core.Path.{_≡_, sym, _∙_, ap}
+use mathlib.Core.List.{[], _∷_}
+use Prim.Native.Nat.{ℕ, _-_, _≤_, _<_}
 use native.Mathlib.Omega.{arith}
 use lib.IntN.{ℤ, pos}
 use lib.ListN.{getD}
@@ -12,16 +11,17 @@ use mir.Val.{toZ, ofZ}
 use Rattle.exact.proofs.Bits.{fits, back}
 use Rattle.rules.specs.declared.Refusal.{Refusal}
 use Rattle.rules.specs.Plan.{Plan, plan, columns, level, entry, everyRun, everyColumn}
-use Rattle.rules.specs.Refusals.{Check, refusal, ofPlan, badLength, plain, accepted}
+use Rattle.rules.specs.Refusals.{refusal, orElse, ofPlan, badLength}
+use Rattle.rules.proofs.Ranges.{or-neither}
 use Rattle.plan.specs.Good.{Good}
-use Rattle.plan.proofs.Checks.{passed-good}
+use Rattle.plan.proofs.Checks.{passed-good, plan-handed}
 use Rattle.plan.proofs.Sound.{good-sound}
-use Rattle.plan.proofs.Answers.{call-refused, call-own, call-accepted}
+use Rattle.plan.proofs.Answers.{answer-refused, answer-accepted}
 use Rattle.words.specs.declared.WordAnswer.{WordAnswer}
 use Rattle.words.specs.Words.{word}
 use Rattle.words.specs.Answers.{wordAnswer}
 use Rattle.words.proofs.OfPlan.{word-small}
-use Rattle.words.proofs.Answered.{word-at}
+use Rattle.words.proofs.Answered.{word-at, length-passed}
 use Rattle.words.proofs.word.Statement.{statement}
 use Rattle.words.proofs.word.Tie as tie
 
@@ -29,98 +29,91 @@ use Rattle.words.proofs.word.Tie as tie
 abbrev make : Refusal → ℤ → WordAnswer
 make r x = record { refused = r; word = x }
 
--- the plan, the length, its check and the word
-module _ (k : tie.After-check) where
+-- the plan, the length, its word, and the refusal of both
+module _ (k : tie.After-or-else) where
+  abbrev start : tie.Start
+  start = k .before .before .before .before .before
+
   abbrev given : Plan
-  given = plan (k .before .before .before .args .levels .now) (k .before .before .before .args .table .now)
+  given = plan (start .args .levels .now) (start .args .table .now)
 
   abbrev j : ℕ
-  j = k .before .before .before .args .length
-
-  abbrev own : List Check
-  own = badLength (columns given) j ∷ []
+  j = start .args .length
 
   abbrev W : ℤ
   W = word (level given) (entry given) (everyRun given) (everyColumn given) j
 
+  whole : k .or-else .result ≡ refusal (ofPlan given (badLength (columns given) j ∷ []))
+  whole =
+      k .or-else .ensures
+      ∙ ap (orElse (k .before .before .check .result)) (k .before .check-length .ensures)
+      ∙ plan-handed given (badLength (columns given) j ∷ []) tt (k .before .before .check .ensures)
+
+  -- where nothing is refused
+  module _ (z : k .or-else .result .number ≡ 0) where
+    neither : (k .before .before .check .result .number ≡ 0) × (k .before .check-length .result .number ≡ 0)
+    neither = or-neither (k .before .before .check .result) (k .before .check-length .result) (ap (λ r. r .number) (sym (k .or-else .ensures)) ∙ z)
+
+    good : Good given
+    good = passed-good given (k .before .before .check .ensures) (neither .0)
+
+    inside : (1 ≤ j) × (j ≤ columns given)
+    inside = length-passed (columns given) j (k .before .check-length .ensures) (neither .1)
+
 check-requires : tie.Need-check-requires
 check-requires c κs = search needs
 
+check-length-requires : tie.Need-check-length-requires
+check-length-requires c κs = search needs
+
+or-else-requires : tie.Need-or-else-requires
+or-else-requires c κs = search needs
+
 returns : tie.Need-returns
 unfolding wordAnswer
-returns c =
-    let k = c .before .before in
-    call-refused make (pos 0) (W k) (given k) (own k) tt (k .check .ensures) (c .if1 .taken)
-
-plain-requires : tie.Need-plain-requires
-plain-requires c κs = search needs
-
--- the plan passes, and the length does not
-wrong-length : (k : tie.After-check) (r : Refusal) → r ≡ plain 8 → k .check .result .number ≡ 0 → refusal (own k) ≡ plain 8 →
-    make r (pos 0) ≡ wordAnswer (given k) (everyRun (given k)) (ofPlan (given k)) (j k)
-unfolding wordAnswer
-wrong-length k r e z bad =
-    ap (λ r. make r (pos 0)) e ∙ call-own make (pos 0) (W k) (given k) (own k) tt (k .check .ensures) z bad (λ n. omega arith)
-
-returns-2 : tie.Need-returns-2
-returns-2 c =
-    let k = c .before .before .before .before in
-    wrong-length k (c .plain .result) (c .plain .ensures) (c .before .before .if1 .left) (rw (lt-ltb (j k) 1 (c .before .if2 .taken)))
-
-plain-requires-2 : tie.Need-plain-requires-2
-plain-requires-2 c κs = search needs
-
-returns-3 : tie.Need-returns-3
-returns-3 c =
-    let k = c .before .before .before .before .before in
-    wrong-length k (c .plain2 .result) (c .plain2 .ensures) (c .before .before .before .if1 .left)
-    (rw (le-ltb (j k) 1 (c .before .before .if2 .left), lt-ltb (columns (given k)) (j k) (c .before .if3 .taken)))
-
--- what is known of the plan and the length where nothing is refused
-module _ (c : tie.Else3) where
-  abbrev checked : tie.After-check
-  checked = c .before .before .before .before
-
-  good : Good (given checked)
-  good = passed-good (given checked) (checked .check .ensures) (c .before .before .if1 .left)
-
-  short : j checked - 1 < 24
-  short = omega (arith, good .columns-high)
+returns c = let k = c .before .before in answer-refused make (pos 0) (W k) (sym (whole k)) (c .if1 .taken)
 
 words-of-plan-requires : tie.Need-words-of-plan-requires
-words-of-plan-requires c κs = good c
+words-of-plan-requires c κs = good (c .before .before) (c .if1 .left)
+
+sub-t8 : tie.Need-sub-t8
+sub-t8 c = let d = c .before in omega (arith, inside (d .before .before) (d .if1 .left) .0)
+
+-- the place of the word lies in the row
+short : (d : tie.Else1) → j (d .before .before) - 1 < 24
+short d = let k = d .before .before in omega (arith, inside k (d .if1 .left), good k (d .if1 .left) .columns-high)
 
 mul-t11 : tie.Need-mul-t11
 mul-t11 c = omega (arith, short (c .before))
 
 array-copy-out-t14 : tie.Need-array-copy-out-t14
-array-copy-out-t14 c = omega (arith, short (c .before))
+array-copy-out-t14 c = short (c .before)
 
-returns-4 : tie.Need-returns-4
+returns-2 : tie.Need-returns-2
 unfolding wordAnswer
-returns-4 c =
-    let d = c .before in let x = d .before in let k = checked x in let z = x .before .before .if1 .left in
-    let e : getD (d .words-of-plan .result) (j k - 1) (pos 0) ≡ W k
-    = ap (λ l. getD l (j k - 1) (pos 0)) (d .words-of-plan .ensures)
-    ∙ word-at (given k) (everyRun (given k)) (j k) (x .before .if2 .left) (omega (arith, good x .columns-high)) in
+returns-2 c =
+    let w = c .before in
+    let d = w .before in
+    let k = d .before .before in
+    let G = good k (d .if1 .left) in
+    let e : getD (w .words-of-plan .result) (j k - 1) (pos 0) ≡ W k
+    = ap (λ l. getD l (j k - 1) (pos 0)) (w .words-of-plan .ensures)
+    ∙ word-at (given k) (everyRun (given k)) (j k) (inside k (d .if1 .left) .0) (omega (arith, inside k (d .if1 .left) .1, G .columns-high)) in
     let read : toZ w64 (ofZ w64 (W k)) ≡ W k
-    = back (fits (W k) (omega (arith, word-small (given k) (everyRun (given k)) (good-sound (given k) (good x)) (j k)))) in
-    let own-passes : refusal (own k) ≡ accepted
-    = rw (le-ltb (j k) 1 (x .before .if2 .left), le-ltb (columns (given k)) (j k) (x .if3 .left)) in
-    ap (λ y. make (k .check .result) (toZ w64 (ofZ w64 y))) e ∙ ap (make (k .check .result)) read
-    ∙ call-accepted make (pos 0) (W k) (given k) (own k) tt (k .check .ensures) z own-passes
+    = back (fits (W k) (omega (arith, word-small (given k) (everyRun (given k)) (good-sound (given k) G) (j k)))) in
+    ap (λ y. make (k .or-else .result) (toZ w64 (ofZ w64 y))) e ∙ ap (make (k .or-else .result)) read
+    ∙ answer-accepted make (pos 0) (W k) (sym (whole k)) (d .if1 .left)
 
 pub word-spec : {M : Type 1} → statement M
 word-spec =
     tie.close
     (tie.spec
     check-requires
+    check-length-requires
+    or-else-requires
     returns
-    plain-requires
-    returns-2
-    plain-requires-2
-    returns-3
     words-of-plan-requires
+    sub-t8
     mul-t11
     array-copy-out-t14
-    returns-4)
+    returns-2)

@@ -37,9 +37,6 @@ smaller-requires-2 c κs = search needs
 plain-requires : tie.Need-plain-requires
 plain-requires c κs = search needs
 
-no-table-requires : tie.Need-no-table-requires
-no-table-requires c κs = search needs
-
 -- what the function is given, from the table made
 abbrev start : tie.After-tabulate → tie.Start
 start c = c .before .before .before .before .before .before .before .before .before .before
@@ -68,10 +65,10 @@ room c = c .smaller2 .ensures ∙ ap (min _) (c .before .smaller .ensures)
 
 returns : tie.Need-returns
 returns c =
-    let t = c .before .before in
+    let t = c .before in
     let m = t .before .before .before .before .before .before in
     let short : shortest (lent m) < length (lines m) = omega (arith, t .if1 .taken, room (t .before), m .tabulate .ensures .0) in
-    rw (c .no-table .ensures, c .before .plain .ensures)
+    rw (c .plain .ensures)
     (too-short (length (start m .args .levels .now)) (start m .args .f) (start m .pre .1) (lines m) (lent m) short)
 
 slice-aggregate-copy-into : tie.Need-slice-aggregate-copy-into
@@ -151,7 +148,6 @@ frequencies-spec =
     smaller-requires
     smaller-requires-2
     plain-requires
-    no-table-requires
     returns
     slice-aggregate-copy-into
     copy-into-requires

@@ -71,10 +71,13 @@ loop-again c =
     ))
     (c .if1 .came)
 
+too-few-requires : tie.Need-too-few-requires Inv-loop μ-loop
+too-few-requires c κs = search needs
+
 returns : tie.Need-returns Inv-loop μ-loop
 returns c =
-    let l = c .before .loop in
-    walk-ends (marksIn (c .before .before .before .args .held)) (l .f) (omega arith) (l .inv .5)
+    let l = c .before .before .loop in
+    rw (c .too-few .ensures) (walk-ends (marksIn (c .before .before .before .before .args .held)) (l .f) (omega arith) (l .inv .5))
 
 pub standing-runs-spec : {M : Type 1} → statement M
 standing-runs-spec =
@@ -90,4 +93,5 @@ standing-runs-spec =
     add-f
     loop-less
     loop-again
+    too-few-requires
     returns)

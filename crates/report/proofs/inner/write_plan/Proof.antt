@@ -1,17 +1,18 @@
 -- The measures are those of every run, and the three parts stand one behind the other.
 use borrow.Author.Needs.{needs}
-use mathlib.Core.Path.{_≡_, sym, _∙_, ap, subst, subst⁻¹}
+use mathlib.Core.Path.{_≡_, refl, sym, _∙_, ap, ap₂, subst⁻¹}
 use mathlib.Core.List.{_++_}
 use native.Mathlib.Omega.{arith}
 use lib.ListN.{length, take}
 use Rattle.exact.proofs.Numbers.{length-from}
 use Rattle.rules.specs.Plan.{Plan, plan, runs, everyRun}
 use Rattle.words.proofs.Answered.{run-front}
+use Rattle.rules.specs.Refusals.{accepted}
 use Rattle.resolution.specs.Resolution.{generalizedAnswer}
-use Rattle.resolution.specs.Given.{Measured, generalizedFrom}
-use Rattle.resolution.proofs.Answered.{generalized-is}
+use Rattle.resolution.specs.Given.{Measured, ratingBeside, generalizedFrom}
+use Rattle.resolution.proofs.Answered.{generalized-answered}
+use Rattle.resolution.proofs.Rated.{rating-small}
 use Rattle.projections.proofs.Answers.{good-tabled}
-use Rattle.resolution.proofs.Rated.{own, rating-small}
 use Rattle.text.proofs.Puts.{put-as, put-kept, put-both}
 use Rattle.report.specs.Listing.{countLines, adviceLine, planListing}
 use Rattle.report.specs.Parts.{Every}
@@ -34,16 +35,18 @@ module _ (c : tie.After-every-run) where
   every = record { good = start .pre .0; all = lent }
 
 -- the rating is that of every run
-rating : (c : tie.After-rate) → let p = given (c .before .before .before) in c .rate .result ≡ own p (everyRun p) 0
+rating : (c : tie.After-rate-answer) → let p = given (c .before .before .before .before) in c .rate-answer .result ≡ ratingBeside p (everyRun p) accepted 0
 rating c =
-    let e = c .before .before .before in
-    subst (λ rs. c .rate .result ≡ own (given e) rs 0) (lent e) (c .rate .ensures)
+    let e = c .before .before .before .before in
+    c .rate-answer .ensures ∙ ap₂ (λ rs r. ratingBeside (given e) rs r 0) (lent e) (c .before .before .accepted .ensures)
 
 rated : (c : tie.After-generalized-of) →
-    let p = given (c .before .before .before .before) in c .generalized-of .result ≡ generalizedAnswer p (everyRun p) (λ checks. checks)
+    let p = given (c .before .before .before .before .before) in c .generalized-of .result ≡ generalizedAnswer p (everyRun p) (λ checks. checks)
 rated c =
-    let p = given (c .before .before .before .before) in
-    c .generalized-of .ensures ∙ ap generalizedFrom (rating (c .before)) ∙ generalized-is p (everyRun p) (λ checks. checks) 0
+    let e = c .before .before .before .before .before in
+    let p = given e in
+    c .generalized-of .ensures ∙ ap generalizedFrom (rating (c .before))
+    ∙ generalized-answered p (everyRun p) (λ checks. checks) accepted refl (λ z. start e .pre .0 .columns-low)
 
 words-of-plan-requires : tie.Need-words-of-plan-requires
 words-of-plan-requires c κs = search needs
@@ -60,26 +63,29 @@ array-share-prefix-every c = search needs
 slice-aggregate-runs : tie.Need-slice-aggregate-runs
 slice-aggregate-runs c = sym (ap length (lent (c .before)) ∙ length-from 0 (runs (given (c .before))))
 
-rate-requires : tie.Need-rate-requires
-rate-requires c κs =
-    let e = c .before .before in
+accepted-requires : tie.Need-accepted-requires
+accepted-requires c κs = search needs
+
+rate-answer-requires : tie.Need-rate-answer-requires
+rate-answer-requires c κs z =
+    let e = c .before .before .before in
     subst⁻¹ (λ rs. Measured (given e) rs (e .before .words-of-plan .result)) (lent e)
     (record { tabled = good-tabled (given e) (start e .pre .0); of-runs = e .before .words-of-plan .ensures })
 
 generalized-of-requires : tie.Need-generalized-of-requires
 generalized-of-requires c κs =
-    let e = c .before .before .before in
-    rw (rating c) (rating-small (given e) (everyRun (given e)) 0 (good-tabled (given e) (start e .pre .0)))
+    let e = c .before .before .before .before in
+    rw (rating c) (rating-small (given e) (everyRun (given e)) accepted 0 (λ z. good-tabled (given e) (start e .pre .0)))
 
 write-counts-requires : tie.Need-write-counts-requires
 write-counts-requires c κs =
-    let e = c .before .before .before .before .before .before in
+    let e = c .before .before .before .before .before .before .before in
     (record { every = every e; of-runs = e .before .words-of-plan .ensures }, omega (arith, start e .pre .1))
 
 write-resolution-requires : tie.Need-write-resolution-requires
 write-resolution-requires c κs =
     let first = c .before .before .before in
-    let s = start (first .before .before .before .before .before .before .before) in
+    let s = start (first .before .before .before .before .before .before .before .before) in
     let P = first .write-counts .ensures in
     omega (arith, P .short, P .behind, put-kept P, s .pre .1)
 
@@ -87,7 +93,7 @@ write-advice-requires : tie.Need-write-advice-requires
 write-advice-requires c κs =
     let middle = c .before .before .before in
     let first = middle .before .before .before .before in
-    let e = first .before .before .before .before .before .before .before in
+    let e = first .before .before .before .before .before .before .before .before in
     let P = put-both (first .write-counts .ensures) (middle .write-resolution .ensures) in
     (every e, omega (arith, P .short, P .behind, put-kept P, start e .pre .1))
 
@@ -101,7 +107,7 @@ returns c =
     let middle = last .before .before .before .before in
     let first = middle .before .before .before .before in
     let g = first .before .before .before in
-    let p = given (g .before .before .before .before) in
+    let p = given (g .before .before .before .before .before) in
     put-as (ap (λ l. countLines p ++ l ++ adviceLine p) (rating-lines p (rated g))) (omega arith)
     (put-both (put-both (first .write-counts .ensures) (middle .write-resolution .ensures)) (last .write-advice .ensures))
 
@@ -114,7 +120,8 @@ write-plan-spec =
     every-run-requires
     array-share-prefix-every
     slice-aggregate-runs
-    rate-requires
+    accepted-requires
+    rate-answer-requires
     generalized-of-requires
     write-counts-requires
     write-resolution-requires

@@ -1,57 +1,60 @@
--- `standing::questions::advice` meets its contract: with fewer than two standing it is refused by 10, and beside no refusal stands the advice.
+-- `standing::questions::advice` meets its contract: the run advised is that of the standing runs.
+use Rattle.advice.specs.Advice.{adviceChecks, adviceAnswer}
+use Rattle.held.specs.Held.{standingIn}
 use Rattle.standing.specs.Answers.{heldAdvice}
-use Rattle.standing.proofs.Asked.{few-refused, enough-accepted}
-use Rattle.held.proofs.Lent.{count-is}
+use Rattle.standing.proofs.Lent.{lent-standing}
+use Rattle.held.proofs.Lent.{levels-lent, entries-lent, size-fits, runs-lent, lent-runs, held-handed, front}
 use borrow.Author.Needs.{needs}
 use Rattle.standing.proofs.questions.advice.Statement.{statement}
 use Rattle.standing.proofs.questions.advice.Tie as tie
-use Rattle.standing.proofs.questions.advice.Reads as reads
-use Rattle.standing.proofs.questions.advice.Lts as lts
-use Rattle.held.proofs.inner.standing_runs.Reads as standing-runs-reads
-use Rattle.standing.proofs.measures.advice_of.Reads as advice-of-reads
-use Rattle.rules.proofs.Refusal.accepted.Reads as accepted-reads
-use Rattle.rules.proofs.Refusal.plain.Reads as plain-reads
 
--- src/questions.rt:163:9
+mul-size : tie.Need-mul-size
+mul-size c = record { fits = size-fits (c .before .pre) }
+
 standing-runs-requires : tie.Need-standing-runs-requires
 standing-runs-requires c κs = search needs
 
--- src/questions.rt:166:13
-plain-requires : tie.Need-plain-requires
-plain-requires c κs = search needs
+array-share-prefix-levels : tie.Need-array-share-prefix-levels
+array-share-prefix-levels c = levels-lent (c .before .before .before .before .before .pre)
 
--- src/questions.rt:168:9
+slice-aggregate-advice-answer : tie.Need-slice-aggregate-advice-answer
+slice-aggregate-advice-answer c = front _ (levels-lent (c .before .before .before .before .before .before .pre))
+
+array-share-prefix-entries : tie.Need-array-share-prefix-entries
+array-share-prefix-entries c = entries-lent (c .before .before .before .before .before .before .pre)
+
+slice-aggregate-advice-answer-2 : tie.Need-slice-aggregate-advice-answer-2
+slice-aggregate-advice-answer-2 c = front _ (entries-lent (c .before .before .before .before .before .before .before .pre))
+
+array-share-prefix-runs : tie.Need-array-share-prefix-runs
+array-share-prefix-runs c = let k = c .before .before .before in runs-lent (k .before .before .before .before .pre) (k .standing-runs .ensures)
+
+slice-aggregate-advice-answer-3 : tie.Need-slice-aggregate-advice-answer-3
+slice-aggregate-advice-answer-3 c =
+    let k = c .before .before .before .before in front _ (runs-lent (k .before .before .before .before .pre) (k .standing-runs .ensures))
+
+advice-answer-requires : tie.Need-advice-answer-requires
+advice-answer-requires c κs z = let k = c .before .before .before .before in lent-standing (k .before .before .before .before .pre) (k .standing-runs .ensures)
+
 returns : tie.Need-returns
-unfolding heldAdvice
+unfolding heldAdvice adviceAnswer
 returns c =
-    let s = c .before .before .before in
-    rw (c .plain .ensures, few-refused (s .args .held) (rw (count-is (s .pre) (c .before .before .standing-runs .ensures)) at (c .before .if1 .taken)))
-
--- src/questions.rt:170:9
-accepted-requires : tie.Need-accepted-requires
-accepted-requires c κs = search needs
-
--- src/questions.rt:171:9
-advice-of-requires : tie.Need-advice-of-requires
-advice-of-requires c κs =
-    let s = c .before .before .before in
-    (s .pre, rw (count-is (s .pre) (c .before .before .standing-runs .ensures)) at (c .before .if1 .left))
-
--- src/questions.rt:159:1
-returns-2 : tie.Need-returns-2
-unfolding heldAdvice
-returns-2 c =
-    let s = c .before .before .before .before in
-    let enough = rw (count-is (s .pre) (c .before .before .before .standing-runs .ensures)) at (c .before .before .if1 .left) in
-    rw (c .before .accepted .ensures, c .advice-of .ensures, enough-accepted (s .args .held) enough)
+    let k = c .before .before .before .before .before in
+    let s = k .before .before .before .before in
+    let e = k .standing-runs .ensures in
+    rw (c .advice-answer .ensures, lent-runs (s .pre) e, held-handed (s .pre) e (adviceChecks (standingIn (s .args .held))))
 
 pub advice-spec : {M : Type 1} → statement M
 advice-spec =
     tie.close
     (tie.spec
+    mul-size
     standing-runs-requires
-    plain-requires
-    returns
-    accepted-requires
-    advice-of-requires
-    returns-2)
+    array-share-prefix-levels
+    slice-aggregate-advice-answer
+    array-share-prefix-entries
+    slice-aggregate-advice-answer-2
+    array-share-prefix-runs
+    slice-aggregate-advice-answer-3
+    advice-answer-requires
+    returns)

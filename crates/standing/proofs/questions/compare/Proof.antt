@@ -1,77 +1,44 @@
--- `standing::questions::compare` meets its contract: it makes the tests of the definition, in their order.
-use mathlib.Core.List.{[]}
-use borrow.Author.Tests.{eq-eqb, ne-eqb}
-use Rattle.compare.specs.Compare.{compareAnswer}
+-- `standing::questions::compare` meets its contract: each side has its refusal, its words and its numbers of runs and columns.
+use mathlib.Core.Path.{sym, _∙_, ap}
+use Rattle.compare.proofs.Sides.{side-sided, sides-compared}
+use Rattle.held.specs.Held.{planIn, standingIn, ofStanding}
 use Rattle.standing.specs.Answers.{heldComparison}
-use Rattle.standing.proofs.Asked.{none-refuses, some-asks}
-use Rattle.held.proofs.Lent.{columns-in}
+use Rattle.standing.proofs.Lent.{held-side-refusal, held-side}
 use borrow.Author.Needs.{needs}
 use Rattle.standing.proofs.questions.compare.Statement.{statement}
 use Rattle.standing.proofs.questions.compare.Tie as tie
-use Rattle.standing.proofs.questions.compare.Reads as reads
-use Rattle.standing.proofs.questions.compare.Lts as lts
-use Rattle.standing.proofs.measures.verdict_of.Reads as verdict-of-reads
-use Rattle.rules.proofs.Refusal.plain.Reads as plain-reads
 
--- src/questions.rt:127:45
-plain-requires : tie.Need-plain-requires
-plain-requires c κs = search needs
+side-of-requires : tie.Need-side-of-requires
+side-of-requires c κs = search needs
 
--- src/questions.rt:128:9
+side-of-requires-2 : tie.Need-side-of-requires-2
+side-of-requires-2 c κs = search needs
+
+compare-answer-requires : tie.Need-compare-answer-requires
+compare-answer-requires c κs =
+    let a = c .before in
+    let s = a .before in
+    let h = s .args .held in
+    let k = s .args .other in (
+      side-sided (planIn h) (standingIn h) (a .side-of .result) (held-side (s .pre .0) (a .side-of .ensures)),
+      side-sided (planIn k) (standingIn k) (c .side-of2 .result) (held-side (s .pre .1) (c .side-of2 .ensures)),
+    )
+
 returns : tie.Need-returns
-unfolding heldComparison compareAnswer
-returns c = rw (c .plain .ensures, none-refuses (c .before .before .pre .0) [] (c .before .if1 .taken))
-
--- src/questions.rt:135:45
-plain-requires-2 : tie.Need-plain-requires-2
-plain-requires-2 c κs = search needs
-
--- src/questions.rt:136:9
-returns-2 : tie.Need-returns-2
-unfolding heldComparison compareAnswer
-returns-2 c =
-    let s = c .before .before .before in
-    rw (c .plain2 .ensures, some-asks (s .pre .0) [] (c .before .before .if1 .left), none-refuses (s .pre .1) [] (c .before .if2 .taken))
-
--- src/questions.rt:144:9
-returns-3 : tie.Need-returns-3
-unfolding heldComparison compareAnswer
-returns-3 c =
-    let s = c .before .before .before in
-    rw (
-      some-asks (s .pre .0) [] (c .before .before .if1 .left),
-      some-asks (s .pre .1) [] (c .before .if2 .left),
-      columns-in (s .pre .0),
-      columns-in (s .pre .1),
-      ne-eqb (s .args .held .columns) (s .args .other .columns) (c .if3 .taken),
-    )
-
--- src/questions.rt:150:39
-verdict-of-requires : tie.Need-verdict-of-requires
-verdict-of-requires c κs = search needs
-
--- src/questions.rt:118:1
-returns-4 : tie.Need-returns-4
-unfolding heldComparison compareAnswer
-returns-4 c =
-    let s = c .before .before .before .before in
-    rw (
-      c .verdict-of .ensures,
-      some-asks (s .pre .0) [] (c .before .before .before .if1 .left),
-      some-asks (s .pre .1) [] (c .before .before .if2 .left),
-      columns-in (s .pre .0),
-      columns-in (s .pre .1),
-      eq-eqb (s .args .held .columns) (s .args .other .columns) (c .before .if3 .left),
-    )
+unfolding heldComparison
+returns c =
+    let b = c .before in
+    let a = b .before in
+    let s = a .before in
+    let h = s .args .held in
+    let k = s .args .other in
+    let e = a .side-of .ensures in
+    let f = b .side-of2 .ensures in
+    ap (λ x. record { held = h; other = k; answer = x })
+    (c .compare-answer .ensures
+    ∙ sides-compared (planIn h) (standingIn h) (a .side-of .result) (held-side (s .pre .0) e) (planIn k) (standingIn k) (b .side-of2 .result)
+    (held-side (s .pre .1) f) (ofStanding h) (ofStanding k) (sym (held-side-refusal (s .pre .0) e)) (sym (held-side-refusal (s .pre .1) f)))
 
 pub compare-spec : {M : Type 1} → statement M
 compare-spec =
-    tie.close
-    (tie.spec
-    plain-requires
-    returns
-    plain-requires-2
-    returns-2
-    returns-3
-    verdict-of-requires
-    returns-4)
+    tie.close (tie.spec side-of-requires side-of-requires-2 compare-answer-requires returns)

@@ -1,31 +1,58 @@
 -- `standing::questions::row_sums` meets its contract: the row sums are those of the standing runs.
-use mathlib.Core.List.{[]}
 use Rattle.words.specs.Answers.{rowSumsAnswer}
 use Rattle.standing.specs.Answers.{heldRowSums}
-use Rattle.standing.proofs.Asked.{none-refuses, some-asks}
+use Rattle.held.proofs.Lent.{levels-lent, entries-lent, size-fits, runs-lent, lent-runs, lent-sound, held-refusal, front}
 use borrow.Author.Needs.{needs}
 use Rattle.standing.proofs.questions.row_sums.Statement.{statement}
 use Rattle.standing.proofs.questions.row_sums.Tie as tie
 
-plain-requires : tie.Need-plain-requires
-plain-requires c κs = search needs
+mul-size : tie.Need-mul-size
+mul-size c = record { fits = size-fits (c .before .pre) }
+
+standing-runs-requires : tie.Need-standing-runs-requires
+standing-runs-requires c κs = search needs
+
+array-share-prefix-levels : tie.Need-array-share-prefix-levels
+array-share-prefix-levels c = levels-lent (c .before .before .before .before .before .pre)
+
+slice-aggregate-row-sums-answer : tie.Need-slice-aggregate-row-sums-answer
+slice-aggregate-row-sums-answer c = front _ (levels-lent (c .before .before .before .before .before .before .pre))
+
+array-share-prefix-entries : tie.Need-array-share-prefix-entries
+array-share-prefix-entries c = entries-lent (c .before .before .before .before .before .before .pre)
+
+slice-aggregate-row-sums-answer-2 : tie.Need-slice-aggregate-row-sums-answer-2
+slice-aggregate-row-sums-answer-2 c = front _ (entries-lent (c .before .before .before .before .before .before .before .pre))
+
+array-share-prefix-runs : tie.Need-array-share-prefix-runs
+array-share-prefix-runs c = let k = c .before .before .before in runs-lent (k .before .before .before .before .pre) (k .standing-runs .ensures)
+
+slice-aggregate-row-sums-answer-3 : tie.Need-slice-aggregate-row-sums-answer-3
+slice-aggregate-row-sums-answer-3 c =
+    let k = c .before .before .before .before in front _ (runs-lent (k .before .before .before .before .pre) (k .standing-runs .ensures))
+
+row-sums-answer-requires : tie.Need-row-sums-answer-requires
+row-sums-answer-requires c κs z =
+    let k = c .before .before .before .before in lent-sound (k .before .before .before .before .pre) (k .standing-runs .ensures)
 
 returns : tie.Need-returns
 unfolding heldRowSums rowSumsAnswer
-returns c = rw (c .plain .ensures, none-refuses (c .before .before .pre) [] (c .before .if1 .taken))
-
-accepted-requires : tie.Need-accepted-requires
-accepted-requires c κs = search needs
-
-rows-of-requires : tie.Need-rows-of-requires
-rows-of-requires c κs = search needs
-
-returns-2 : tie.Need-returns-2
-unfolding heldRowSums rowSumsAnswer
-returns-2 c =
-    let s = c .before .before .before in
-    rw (c .before .accepted .ensures, c .rows-of .ensures, some-asks (s .pre) [] (c .before .before .if1 .left))
+returns c =
+    let k = c .before .before .before .before .before in
+    let H = k .before .before .before .before .pre in
+    rw (c .row-sums-answer .ensures, lent-runs H (k .standing-runs .ensures), held-refusal H (k .standing-runs .ensures))
 
 pub row-sums-spec : {M : Type 1} → statement M
 row-sums-spec =
-    tie.close (tie.spec plain-requires returns accepted-requires rows-of-requires returns-2)
+    tie.close
+    (tie.spec
+    mul-size
+    standing-runs-requires
+    array-share-prefix-levels
+    slice-aggregate-row-sums-answer
+    array-share-prefix-entries
+    slice-aggregate-row-sums-answer-2
+    array-share-prefix-runs
+    slice-aggregate-row-sums-answer-3
+    row-sums-answer-requires
+    returns)

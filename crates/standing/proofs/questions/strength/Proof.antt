@@ -1,31 +1,60 @@
 -- `standing::questions::strength` meets its contract: the strength is that of the standing runs.
-use mathlib.Core.List.{[]}
 use Rattle.counts.specs.Counts.{strengthAnswer}
 use Rattle.standing.specs.Answers.{heldStrength}
-use Rattle.standing.proofs.Asked.{none-refuses, some-asks}
+use Rattle.held.proofs.Lent.{levels-lent, entries-lent, size-fits, runs-lent, lent-runs, lent-sound, lent-some, held-refusal, front}
 use borrow.Author.Needs.{needs}
 use Rattle.standing.proofs.questions.strength.Statement.{statement}
 use Rattle.standing.proofs.questions.strength.Tie as tie
 
-plain-requires : tie.Need-plain-requires
-plain-requires c κs = search needs
+mul-size : tie.Need-mul-size
+mul-size c = record { fits = size-fits (c .before .pre) }
+
+standing-runs-requires : tie.Need-standing-runs-requires
+standing-runs-requires c κs = search needs
+
+array-share-prefix-levels : tie.Need-array-share-prefix-levels
+array-share-prefix-levels c = levels-lent (c .before .before .before .before .before .pre)
+
+slice-aggregate-strength-answer : tie.Need-slice-aggregate-strength-answer
+slice-aggregate-strength-answer c = front _ (levels-lent (c .before .before .before .before .before .before .pre))
+
+array-share-prefix-entries : tie.Need-array-share-prefix-entries
+array-share-prefix-entries c = entries-lent (c .before .before .before .before .before .before .pre)
+
+slice-aggregate-strength-answer-2 : tie.Need-slice-aggregate-strength-answer-2
+slice-aggregate-strength-answer-2 c = front _ (entries-lent (c .before .before .before .before .before .before .before .pre))
+
+array-share-prefix-runs : tie.Need-array-share-prefix-runs
+array-share-prefix-runs c = let k = c .before .before .before in runs-lent (k .before .before .before .before .pre) (k .standing-runs .ensures)
+
+slice-aggregate-strength-answer-3 : tie.Need-slice-aggregate-strength-answer-3
+slice-aggregate-strength-answer-3 c =
+    let k = c .before .before .before .before in front _ (runs-lent (k .before .before .before .before .pre) (k .standing-runs .ensures))
+
+strength-answer-requires : tie.Need-strength-answer-requires
+strength-answer-requires c κs z =
+    let k = c .before .before .before .before in
+    let H = k .before .before .before .before .pre in
+    (lent-sound H (k .standing-runs .ensures), lent-some H (k .standing-runs .ensures) z)
 
 returns : tie.Need-returns
 unfolding heldStrength strengthAnswer
-returns c = rw (c .plain .ensures, none-refuses (c .before .before .pre) [] (c .before .if1 .taken))
-
-accepted-requires : tie.Need-accepted-requires
-accepted-requires c κs = search needs
-
-strength-of-requires : tie.Need-strength-of-requires
-strength-of-requires c κs = search needs
-
-returns-2 : tie.Need-returns-2
-unfolding heldStrength strengthAnswer
-returns-2 c =
-    let s = c .before .before .before in
-    rw (c .before .accepted .ensures, c .strength-of .ensures, some-asks (s .pre) [] (c .before .before .if1 .left))
+returns c =
+    let k = c .before .before .before .before .before in
+    let H = k .before .before .before .before .pre in
+    rw (c .strength-answer .ensures, lent-runs H (k .standing-runs .ensures), held-refusal H (k .standing-runs .ensures))
 
 pub strength-spec : {M : Type 1} → statement M
 strength-spec =
-    tie.close (tie.spec plain-requires returns accepted-requires strength-of-requires returns-2)
+    tie.close
+    (tie.spec
+    mul-size
+    standing-runs-requires
+    array-share-prefix-levels
+    slice-aggregate-strength-answer
+    array-share-prefix-entries
+    slice-aggregate-strength-answer-2
+    array-share-prefix-runs
+    slice-aggregate-strength-answer-3
+    strength-answer-requires
+    returns)

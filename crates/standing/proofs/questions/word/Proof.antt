@@ -1,89 +1,99 @@
--- `standing::questions::word` meets its contract: a refusal is 10 or that of the length, and beside none stands the word held.
-use mathlib.Core.List.{List, [], _∷_}
+-- `standing::questions::word` meets its contract: the word is read from those held, where the length is one of theirs.
+use mathlib.Core.Path.{_≡_, sym, _∙_, ap}
+use mathlib.Core.List.{[], _∷_}
+use Prim.Native.Nat.{ℕ, _≤_}
 use native.Mathlib.Omega.{arith}
-use borrow.Author.Tests.{lt-ltb, le-ltb}
-use Rattle.rules.specs.Plan.{columns}
-use Rattle.rules.specs.Refusals.{Check, badLength}
+use lib.IntN.{ℤ, pos}
+use Rattle.rules.specs.declared.Refusal.{Refusal}
+use Rattle.rules.specs.Plan.{columns, level, entry, everyColumn}
+use Rattle.rules.specs.Refusals.{refusal, orElse, badLength}
+use Rattle.rules.proofs.Ranges.{or-neither}
+use Rattle.plan.proofs.Answers.{answer-refused, answer-accepted}
+use Rattle.words.specs.declared.WordAnswer.{WordAnswer}
+use Rattle.words.specs.Words.{word}
 use Rattle.words.specs.Answers.{wordAnswer}
-use Rattle.held.specs.Held.{planIn}
-use Rattle.standing.specs.Answers.{heldWord}
+use Rattle.words.proofs.Answered.{length-passed}
+use Rattle.held.specs.declared.Held.{Held}
+use Rattle.held.specs.Held.{planIn, standingIn, ofStanding}
 use Rattle.held.proofs.Sizes.{sized}
-use Rattle.standing.proofs.Asked.{none-refuses, some-asks}
-use Rattle.held.proofs.Lent.{columns-in, word-read}
+use Rattle.held.proofs.Lent.{columns-in, held-handed, word-read}
+use Rattle.standing.specs.Answers.{heldWord}
 use borrow.Author.Needs.{needs}
 use Rattle.standing.proofs.questions.word.Statement.{statement}
 use Rattle.standing.proofs.questions.word.Tie as tie
 
-plain-requires : tie.Need-plain-requires
-plain-requires c κs = search needs
+abbrev make : Refusal → ℤ → WordAnswer
+make r x = record { refused = r; word = x }
 
--- the check of the length
-own : (s : tie.Start) → List Check
-own s = badLength (columns (planIn (s .args .held))) (s .args .length) ∷ []
+-- the plan, the length, its word, and the refusal of both
+module _ (k : tie.After-or-else) where
+  abbrev start : tie.Start
+  start = k .before .before .before .before .before
+
+  abbrev h : Held
+  h = start .args .held
+
+  abbrev j : ℕ
+  j = start .args .length
+
+  abbrev W : ℤ
+  W = word (level (planIn h)) (entry (planIn h)) (standingIn h) (everyColumn (planIn h)) j
+
+  whole : k .or-else .result ≡ refusal (ofStanding h (badLength (columns (planIn h)) j ∷ []))
+  whole =
+      k .or-else .ensures
+      ∙ ap (orElse (k .before .before .before .standing-runs .result .refused)) (k .before .check-length .ensures)
+      ∙ ap (λ m. orElse (k .before .before .before .standing-runs .result .refused) (refusal (badLength m j ∷ []))) (sym (columns-in (start .pre)))
+      ∙ held-handed (start .pre) (k .before .before .before .standing-runs .ensures) (badLength (columns (planIn h)) j ∷ [])
+
+  inside : k .or-else .result .number ≡ 0 → (1 ≤ j) × (j ≤ h .columns)
+  inside z =
+      length-passed (h .columns) j (k .before .check-length .ensures)
+      (or-neither (k .before .before .before .standing-runs .result .refused) (k .before .check-length .result) (ap (λ r. r .number) (sym (k .or-else .ensures)) ∙ z) .1)
+
+standing-runs-requires : tie.Need-standing-runs-requires
+standing-runs-requires c κs = search needs
+
+check-length-requires : tie.Need-check-length-requires
+check-length-requires c κs = search needs
+
+or-else-requires : tie.Need-or-else-requires
+or-else-requires c κs = search needs
 
 returns : tie.Need-returns
-unfolding heldWord wordAnswer own
-returns c = let s = c .before .before .before in rw (c .plain .ensures, none-refuses (s .pre) (own s) (c .before .if1 .taken))
+unfolding heldWord wordAnswer
+returns c =
+    let k = c .before .before in ap (λ a. record { held = h k; answer = a }) (answer-refused make (pos 0) (W k) (sym (whole k)) (c .if1 .taken))
 
-plain-requires-2 : tie.Need-plain-requires-2
-plain-requires-2 c κs = search needs
+sub-word : tie.Need-sub-word
+sub-word c = omega (arith, inside (c .before .before) (c .if1 .left) .0)
+
+mul-word : tie.Need-mul-word
+mul-word c =
+    let k = c .before .before in omega (arith, inside k (c .if1 .left), sized (start k .pre) .columns-high)
+
+array-copy-out-word : tie.Need-array-copy-out-word
+array-copy-out-word c =
+    let k = c .before .before in omega (arith, inside k (c .if1 .left), sized (start k .pre) .columns-high)
 
 returns-2 : tie.Need-returns-2
-unfolding heldWord wordAnswer own
+unfolding heldWord wordAnswer
 returns-2 c =
-    let s = c .before .before .before .before in
-    rw (c .plain2 .ensures, some-asks (s .pre) (own s) (c .before .before .if1 .left), lt-ltb (s .args .length) 1 (c .before .if2 .taken))
-
-plain-requires-3 : tie.Need-plain-requires-3
-plain-requires-3 c κs = search needs
-
-returns-3 : tie.Need-returns-3
-unfolding heldWord wordAnswer own
-returns-3 c =
-    let s = c .before .before .before .before .before in
-    rw (
-      c .plain3 .ensures,
-      some-asks (s .pre) (own s) (c .before .before .before .if1 .left),
-      columns-in (s .pre),
-      le-ltb (s .args .length) 1 (c .before .before .if2 .left),
-      lt-ltb (s .args .held .columns) (s .args .length) (c .before .if3 .taken),
-    )
-
-accepted-requires : tie.Need-accepted-requires
-accepted-requires c κs = search needs
-
-mul-t16 : tie.Need-mul-t16
-mul-t16 c = omega (arith, sized (c .before .before .before .before .before .pre) .columns-high)
-
-array-copy-out-t19 : tie.Need-array-copy-out-t19
-array-copy-out-t19 c = omega (arith, sized (c .before .before .before .before .before .pre) .columns-high)
-
-returns-4 : tie.Need-returns-4
-unfolding heldWord wordAnswer own
-returns-4 c =
-    let s = c .before .before .before .before .before .before in
-    let low = c .before .before .before .if2 .left in
-    let high = c .before .before .if3 .left in
-    rw (
-      c .before .accepted .ensures,
-      some-asks (s .pre) (own s) (c .before .before .before .before .if1 .left),
-      word-read (s .pre) (s .args .length) low high,
-      columns-in (s .pre),
-      le-ltb (s .args .length) 1 low,
-      le-ltb (s .args .held .columns) (s .args .length) high,
-    )
+    let k = c .before .before .before in
+    let z = c .before .if1 .left in
+    let i = inside k z in
+    ap (λ x. record { held = h k; answer = make (k .or-else .result) x }) (word-read (start k .pre) (j k) (i .0) (i .1))
+    ∙ ap (λ a. record { held = h k; answer = a }) (answer-accepted make (pos 0) (W k) (sym (whole k)) z)
 
 pub word-spec : {M : Type 1} → statement M
 word-spec =
     tie.close
     (tie.spec
-    plain-requires
+    standing-runs-requires
+    check-length-requires
+    or-else-requires
     returns
-    plain-requires-2
-    returns-2
-    plain-requires-3
-    returns-3
-    accepted-requires
-    mul-t16
-    array-copy-out-t19
-    returns-4)
+    sub-word
+    mul-word
+    array-copy-out-word
+    returns-2)

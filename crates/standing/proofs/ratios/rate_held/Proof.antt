@@ -1,62 +1,66 @@
--- `standing::ratios::rate_held` meets its contract: the first test that fails refuses, and else the runs that stand are rated.
-use Rattle.standing.proofs.Rating.{rate-empty, rate-outside, rate-inside}
+-- `standing::ratios::rate_held` meets its contract: the parts lent are the plan, the runs that stand and their words.
+use mathlib.Core.Path.{sym, _∙_, ap, ap₂}
+use Rattle.resolution.specs.Given.{ratingBeside}
+use Rattle.held.specs.Held.{planIn}
+use Rattle.held.proofs.Lent.{levels-lent, entries-lent, size-fits, runs-lent, lent-runs, held-refusal, front}
+use Rattle.standing.proofs.Rating.{measured}
 use borrow.Author.Needs.{needs}
 use Rattle.standing.proofs.ratios.rate_held.Statement.{statement}
 use Rattle.standing.proofs.ratios.rate_held.Tie as tie
-use Rattle.standing.proofs.ratios.rate_held.Reads as reads
-use Rattle.standing.proofs.ratios.rate_held.Lts as lts
-use Rattle.standing.proofs.ratios.rate_standing.Reads as rate-standing-reads
-use Rattle.resolution.proofs.inner.refusing.Reads as refusing-reads
-use Rattle.rules.proofs.Refusal.plain.Reads as plain-reads
 
--- src/ratios.rt:54:25
-plain-requires : tie.Need-plain-requires
-plain-requires c κs = search needs
+mul-size : tie.Need-mul-size
+mul-size c = record { fits = size-fits (c .before .pre) }
 
--- src/ratios.rt:54:9
-refusing-requires : tie.Need-refusing-requires
-refusing-requires c κs = search needs
+standing-runs-requires : tie.Need-standing-runs-requires
+standing-runs-requires c κs = search needs
 
--- src/ratios.rt:54:9
+abbrev start : tie.After-standing-runs → tie.Start
+start k = k .before .before .before .before .before
+
+array-share-prefix-levels : tie.Need-array-share-prefix-levels
+array-share-prefix-levels c = levels-lent (start (c .before) .pre)
+
+slice-aggregate-rate-answer : tie.Need-slice-aggregate-rate-answer
+slice-aggregate-rate-answer c = front _ (levels-lent (start (c .before .before) .pre))
+
+array-share-prefix-entries : tie.Need-array-share-prefix-entries
+array-share-prefix-entries c = entries-lent (start (c .before .before) .pre)
+
+slice-aggregate-rate-answer-2 : tie.Need-slice-aggregate-rate-answer-2
+slice-aggregate-rate-answer-2 c = front _ (entries-lent (start (c .before .before .before) .pre))
+
+array-share-prefix-runs : tie.Need-array-share-prefix-runs
+array-share-prefix-runs c = let k = c .before .before .before in runs-lent (start k .pre) (k .standing-runs .ensures)
+
+slice-aggregate-rate-answer-3 : tie.Need-slice-aggregate-rate-answer-3
+slice-aggregate-rate-answer-3 c = let k = c .before .before .before .before in front _ (runs-lent (start k .pre) (k .standing-runs .ensures))
+
+rate-answer-requires : tie.Need-rate-answer-requires
+rate-answer-requires c κs z =
+    let k = c .before .before .before .before .before in
+    let H = start k .pre in
+    let e = k .standing-runs .ensures in
+    rw (lent-runs H e) (measured H (ap (λ r. r .number) (sym (held-refusal H e)) ∙ z))
+
 returns : tie.Need-returns
 returns c =
-    let s = c .before .before .before in
-    rw (c .refusing .ensures, c .before .plain .ensures) (rate-empty (s .pre) (s .args .column) (c .before .before .if1 .taken))
-
--- src/ratios.rt:57:25
-plain-requires-2 : tie.Need-plain-requires-2
-plain-requires-2 c κs = search needs
-
--- src/ratios.rt:57:9
-refusing-requires-2 : tie.Need-refusing-requires-2
-refusing-requires-2 c κs = search needs
-
--- src/ratios.rt:57:9
-returns-2 : tie.Need-returns-2
-returns-2 c =
-    let s = c .before .before .before .before in
-    rw (c .refusing2 .ensures, c .before .plain2 .ensures)
-    (rate-outside (s .pre) (s .args .column) (c .before .before .before .if1 .left) (c .before .before .if2 .taken))
-
--- src/ratios.rt:59:5
-rate-standing-requires : tie.Need-rate-standing-requires
-rate-standing-requires c κs = search needs
-
--- src/ratios.rt:47:1
-returns-3 : tie.Need-returns-3
-returns-3 c =
-    let s = c .before .before .before in
-    rw (c .rate-standing .ensures) (rate-inside (s .pre) (s .args .column) (c .before .before .if1 .left) (c .before .if2 .left))
+    let k = c .before .before .before .before .before .before in
+    let s = start k in
+    c .rate-answer .ensures
+    ∙ ap₂ (λ rs r. ratingBeside (planIn (s .args .held)) rs r (s .args .column))
+    (lent-runs (s .pre) (k .standing-runs .ensures)) (held-refusal (s .pre) (k .standing-runs .ensures))
 
 pub rate-held-spec : {M : Type 1} → statement M
 rate-held-spec =
     tie.close
     (tie.spec
-    plain-requires
-    refusing-requires
-    returns
-    plain-requires-2
-    refusing-requires-2
-    returns-2
-    rate-standing-requires
-    returns-3)
+    mul-size
+    standing-runs-requires
+    array-share-prefix-levels
+    slice-aggregate-rate-answer
+    array-share-prefix-entries
+    slice-aggregate-rate-answer-2
+    array-share-prefix-runs
+    slice-aggregate-rate-answer-3
+    rate-answer-requires
+    returns)

@@ -1,42 +1,37 @@
 -- `standing::ratios::resolution` meets its contract: the words held are those of the standing runs, and R is found in them.
-use mathlib.Core.Path.{ap}
-use Rattle.resolution.specs.Resolution.{resolutionChecks, resolutionAnswer}
+use mathlib.Core.Path.{sym, _∙_, ap, ap₂}
+use mathlib.Core.List.{[]}
+use Rattle.rules.specs.Refusals.{refusal}
+use Rattle.resolution.specs.Resolution.{resolutionChecks}
+use Rattle.resolution.specs.Given.{resolutionFrom}
 use Rattle.resolution.proofs.Answered.{resolution-answered}
-use Rattle.held.specs.Held.{planIn, standingIn}
-use Rattle.standing.specs.Answers.{ofStanding, heldResolution}
+use Rattle.held.specs.Held.{planIn, standingIn, ofStanding}
 use Rattle.held.proofs.Sizes.{sized}
-use Rattle.standing.proofs.Asked.{none-refuses, some-asks}
-use Rattle.standing.proofs.Rating.{resolution-found}
+use Rattle.held.proofs.Lent.{columns-in, held-refusal, standing-begins}
+use Rattle.standing.specs.Answers.{heldResolution}
+use Rattle.standing.proofs.Rating.{measured}
 use borrow.Author.Needs.{needs}
 use Rattle.standing.proofs.ratios.resolution.Statement.{statement}
 use Rattle.standing.proofs.ratios.resolution.Tie as tie
 
-plain-requires : tie.Need-plain-requires
-plain-requires c κs = search needs
+standing-runs-requires : tie.Need-standing-runs-requires
+standing-runs-requires c κs = search needs
+
+resolution-answer-requires : tie.Need-resolution-answer-requires
+resolution-answer-requires c κs z = sized (c .before .before .before .pre) .columns-high
 
 returns : tie.Need-returns
-unfolding heldResolution resolutionAnswer
-returns c =
-    let s = c .before .before .before in
-    let h = s .args .held in
-    rw (c .plain .ensures, none-refuses (s .pre) (resolutionChecks (planIn h) (standingIn h)) (c .before .if1 .taken))
-
-resolution-requires : tie.Need-resolution-requires
-resolution-requires c κs = sized (c .before .before .before .pre) .columns-high
-
-resolution-of-requires : tie.Need-resolution-of-requires
-resolution-of-requires c κs = search needs
-
-returns-2 : tie.Need-returns-2
 unfolding heldResolution
-returns-2 c =
-    let s = c .before .before .before .before .before in
+returns c =
+    let k = c .before .before in
+    let s = k .before .before in
     let h = s .args .held in
-    rw (c .resolution-of .ensures, c .before .resolution .ensures, resolution-found (s .pre))
-    (ap (λ a. record { held = h; answer = a })
-    (resolution-answered (planIn h) (standingIn h) (ofStanding h) (some-asks (s .pre) (resolutionChecks (planIn h) (standingIn h)) (c .before .before .before .if1 .left))))
+    let p = planIn h in
+    let rs = standingIn h in
+    ap (λ a. record { held = h; answer = a })
+    (c .resolution-answer .ensures
+    ∙ ap₂ (λ r m. resolutionFrom r (h .words) m) (held-refusal (s .pre) (k .standing-runs .ensures)) (sym (columns-in (s .pre)))
+    ∙ resolution-answered p rs (ofStanding h) (refusal (ofStanding h [])) (standing-begins h (resolutionChecks p rs)) (h .words) (measured (s .pre)))
 
 pub resolution-spec : {M : Type 1} → statement M
-resolution-spec =
-    tie.close
-    (tie.spec plain-requires returns resolution-requires resolution-of-requires returns-2)
+resolution-spec = tie.close (tie.spec standing-runs-requires resolution-answer-requires returns)

@@ -1,74 +1,80 @@
--- `standing::tables::frequencies` meets its contract: a refusal is 10 or that of the size, and then of the rooms alone.
+-- `standing::tables::frequencies` meets its contract: the table is that of the standing runs.
 use mathlib.Core.List.{List}
-use native.Mathlib.Omega.{arith}
-use Rattle.frequencies.specs.Frequencies.{Line, Rooms, rooms, tableIn}
+use Rattle.rules.specs.Plan.{columns}
+use Rattle.frequencies.specs.Frequencies.{Line, Rooms, rooms, tableIn, tableChecks, tableAnswer, tableRooms}
 use Rattle.held.specs.Held.{planIn, standingIn}
-use Rattle.standing.proofs.Projected.{some-runs, size-given, table-refused, table-passed}
+use Rattle.standing.specs.Answers.{heldTable}
+use Rattle.held.proofs.Lent.{levels-lent, entries-lent, size-fits, runs-lent, lent-runs, lent-sound, lent-some, held-handed, front}
 use borrow.Author.Needs.{needs}
 use Rattle.standing.proofs.tables.frequencies.Statement.{statement}
 use Rattle.standing.proofs.tables.frequencies.Tie as tie
-use Rattle.standing.proofs.tables.frequencies.Reads as reads
-use Rattle.standing.proofs.tables.frequencies.Lts as lts
-use Rattle.standing.proofs.tables.check_size.Reads as check-size-reads
-use Rattle.standing.proofs.tables.frequencies_of.Reads as frequencies-of-reads
 
--- src/tables.rt:131:9
--- the lines of the table, and the rooms
-module _ (s : tie.Start) where
-  abbrev lines : List Line
-  lines = tableIn (s .args .relative) (planIn (s .args .held)) (standingIn (s .args .held)) (s .args .f)
+mul-size : tie.Need-mul-size
+mul-size c = record { fits = size-fits (c .before .before .before .before .pre) }
 
-  abbrev lent : Rooms
-  lent = rooms (s .args .nums .now) (s .args .dens .now) (s .args .counts .now)
+standing-runs-requires : tie.Need-standing-runs-requires
+standing-runs-requires c κs = search needs
 
-check-size-requires : tie.Need-check-size-requires
-check-size-requires c κs = search needs
+array-share-prefix-levels : tie.Need-array-share-prefix-levels
+array-share-prefix-levels c = levels-lent (c .before .before .before .before .before .before .before .before .pre)
 
--- src/tables.rt:134:9
-returns : tie.Need-returns
-returns c =
-    let k = c .before .before in
-    let s = k .before .before .before .before in
-    table-refused (s .pre) (s .args .f) (k .check-size .ensures) (lines s) (lent s) (c .if1 .taken)
+slice-aggregate-table-answer : tie.Need-slice-aggregate-table-answer
+slice-aggregate-table-answer c = front _ (levels-lent (c .before .before .before .before .before .before .before .before .before .pre))
 
--- src/tables.rt:136:9
-frequencies-of-requires : tie.Need-frequencies-of-requires
-frequencies-of-requires c κs =
-    let k = c .before .before .before .before .before in
-    let s = k .before .before .before .before in
-    let z = c .before .before .before .if1 .left in
-    let some = some-runs (s .pre) (s .args .f) (k .check-size .ensures) z in
-    (s .pre, (omega arith, size-given (s .pre) (s .args .f) (k .check-size .ensures) z))
+array-share-prefix-entries : tie.Need-array-share-prefix-entries
+array-share-prefix-entries c = entries-lent (c .before .before .before .before .before .before .before .before .before .pre)
 
--- src/tables.rt:119:1
+slice-aggregate-table-answer-2 : tie.Need-slice-aggregate-table-answer-2
+slice-aggregate-table-answer-2 c = front _ (entries-lent (c .before .before .before .before .before .before .before .before .before .before .pre))
+
+array-share-prefix-runs : tie.Need-array-share-prefix-runs
+array-share-prefix-runs c = let k = c .before .before .before in runs-lent (k .before .before .before .before .before .before .before .pre) (k .standing-runs .ensures)
+
+slice-aggregate-table-answer-3 : tie.Need-slice-aggregate-table-answer-3
+slice-aggregate-table-answer-3 c =
+    let k = c .before .before .before .before in front _ (runs-lent (k .before .before .before .before .before .before .before .pre) (k .standing-runs .ensures))
+
+table-answer-requires : tie.Need-table-answer-requires
+table-answer-requires c κs z =
+    let k = c .before .before .before .before .before .before .before in
+    record { sound = lent-sound (k .before .before .before .before .before .before .before .pre) (k .standing-runs .ensures); some = lent-some (k .before .before .before .before .before .before .before .pre) (k .standing-runs .ensures) z }
+
 same-length : tie.Need-same-length
 same-length c = search needs
 
--- src/tables.rt:119:1
 same-length-2 : tie.Need-same-length-2
 same-length-2 c = search needs
 
--- src/tables.rt:119:1
 same-length-3 : tie.Need-same-length-3
 same-length-3 c = search needs
 
--- src/tables.rt:119:1
-returns-2 : tie.Need-returns-2
-returns-2 c =
-    let q = c .before .before .before .before .before .before in
-    let k = q .before .before .before .before .before .before in
-    let s = k .before .before .before .before in
-    rw (q .frequencies-of .ensures .0, q .frequencies-of .ensures .1)
-    (table-passed (s .pre) (s .args .f) (k .check-size .ensures) (lines s) (lent s) (q .before .before .before .before .if1 .left))
+returns : tie.Need-returns
+unfolding heldTable tableAnswer tableRooms
+returns c =
+    let t = c .before .before .before .before .before .before in
+    let k = t .before .before .before .before .before .before .before .before in
+    let s = k .before .before .before .before .before .before .before in
+    let a = s .args in
+    let e = k .standing-runs .ensures in
+    let lent : Rooms = rooms (a .nums .now) (a .dens .now) (a .counts .now) in
+    let lines : List Line = tableIn (a .relative) (planIn (a .held)) (standingIn (a .held)) (a .f) in
+    let q = held-handed (s .pre) e (tableChecks (columns (planIn (a .held))) (a .f) lines lent) in
+    (rw (t .table-answer .ensures .0, lent-runs (s .pre) e, q), rw (t .table-answer .ensures .1, lent-runs (s .pre) e, q))
 
 pub frequencies-spec : {M : Type 1} → statement M
 frequencies-spec =
     tie.close
     (tie.spec
-    check-size-requires
-    returns
-    frequencies-of-requires
+    mul-size
+    standing-runs-requires
+    array-share-prefix-levels
+    slice-aggregate-table-answer
+    array-share-prefix-entries
+    slice-aggregate-table-answer-2
+    array-share-prefix-runs
+    slice-aggregate-table-answer-3
+    table-answer-requires
     same-length
     same-length-2
     same-length-3
-    returns-2)
+    returns)

@@ -13,8 +13,8 @@ use Rattle.plan.specs.Good.{Sound}
 use Rattle.plan.proofs.Sound.{run-mem, run-at, mem-run, good-sound}
 use Rattle.words.specs.Given.{added}
 use Rattle.words.specs.Answers.{byLength}
-use Rattle.words.proofs.Totals.{by-length-row, added-none, added-assoc, added-row, totals, totals-none, totals-next, totals-row}
-use Rattle.words.proofs.OfPlan.{ofPair, pair-longer, row-totals, sound-run, pair-small}
+use Rattle.words.proofs.Totals.{added-none, added-assoc, added-row, totals, totals-none, totals-next, totals-row}
+use Rattle.words.proofs.OfPlan.{ofPair, row-totals, sound-run, pair-small, pair-added, pair-part}
 use Rattle.words.proofs.inner.add_later.Statement.{statement}
 use Rattle.words.proofs.inner.add_later.Tie as tie
 
@@ -90,10 +90,6 @@ part-add-to-start c = omega arith
 part-add-to-end : tie.Need-part-add-to-end Inv-loop μ-loop
 part-add-to-end c = omega arith
 
--- the pair's sums from length 1 on
-longer : (c : tie.After-pair Inv-loop μ-loop) → let l = c .before .before in take 24 (drop 1 (c .pair .result)) ≡ byLength (λ j. adds l j (l .loop .g))
-longer c = let l = c .before .before in ap (λ r. take 24 (drop 1 r)) (c .pair .ensures) ∙ pair-longer (given l) (f l) (l .loop .g)
-
 add-to-requires : tie.Need-add-to-requires Inv-loop μ-loop
 add-to-requires c κs =
     let d = c .before .before .before in let l = d .before .before in let s = start l in
@@ -101,7 +97,8 @@ add-to-requires c κs =
     let so-far = totals-row (adds l) (later (given l) (f l)) (passed l) highestProduct (2 ^ 60) few (omega arith)
     (λ g m. small l g (mem-run (given l) g (mem-drop (f l + 1) (everyRun (given l)) g m))) in (
       rw (l .loop .inv .2) (added-row (s .args .total .now) (totals (adds l) (take (passed l) (later (given l) (f l)))) (2 ^ 60) (2 ^ 60) (s .pre .0) so-far),
-      rw (longer d) (by-length-row (λ j. adds l j (l .loop .g)) (2 ^ 61) (λ j. omega (arith, small l (l .loop .g) (omega arith) j))),
+      rw (d .pair .ensures) (pair-part (given l) (f l) (l .loop .g) 24 (s .pre .1 .0 .columns-high) (sound l (f l) (s .pre .1 .1))
+          (sound l (l .loop .g) (omega arith))),
     )
 
 add-g-2 : tie.Need-add-g-2 Inv-loop μ-loop
@@ -114,12 +111,15 @@ loop-again : tie.Need-loop-again Inv-loop μ-loop
 loop-again c =
     let d = c .before .before .before .before in let l = d .before .before in
     let total = start l .args .total .now in let runs-later = later (given l) (f l) in
+    let so-far = added total (totals (adds l) (take (passed l) runs-later)) in
     let h : l .loop .g < runs (given l) = omega arith in
     let more : passed l + 1 ≡ l .loop .g + 1 - (f l + 1) = omega (arith, l .loop .inv .0) in (
       omega (arith, l .loop .inv .0),
       omega arith,
       c .add-to .ensures
-          ∙ ap₂ added (l .loop .inv .2) (longer d ∙ ap (λ g. byLength (λ j. adds l j g)) (sym (next l h)))
+          ∙ ap₂ (λ row sums. added row (take 24 (drop 1 sums))) (l .loop .inv .2) (d .pair .ensures)
+          ∙ pair-added (given l) (f l) (l .loop .g) 24 (start l .pre .1 .0 .columns-high) so-far
+          ∙ ap (λ g. added so-far (byLength (λ j. adds l j g))) (sym (next l h))
           ∙ added-assoc total (totals (adds l) (take (passed l) runs-later)) (byLength (λ j. adds l j (getD runs-later (passed l) 0)))
           ∙ ap (added total) (totals-next (adds l) runs-later (passed l) 0 (omega (arith, many l, l .loop .inv .0)))
           ∙ ap (λ k. added total (totals (adds l) (take k runs-later))) more,

@@ -1,16 +1,18 @@
--- `words::inner::add_to` meets its contract: below length j the sums are the new ones, and a turn adds to the old.
-use mathlib.Core.Path.{_≡_, refl, _∙_, ap, ap₂}
-use mathlib.Core.List.{List, map}
+-- `words::inner::add_to` meets its contract: below length j the sums are the new ones, and a turn adds to the old. Past the end nothing is added.
+use mathlib.Core.Path.{_≡_, refl, sym, _∙_, ap, ap₂}
+use mathlib.Core.List.{List, _++_, map}
 use Prim.Native.Nat.{ℕ, _+_, _-_, _^_, _≤_, _<_}
 use native.Mathlib.Omega.{arith}
-use lib.IntN.{ℤ, pos, natAbs, _+ℤ_}
-use lib.ListN.{length, getD, set}
+use lib.IntN.{ℤ, pos, natAbs, _+ℤ_, +ℤ-idr}
+use lib.ListN.{length, getD, set, drop, length-drop, List·getD-eq-default}
+use lib.Seq.{ext-getD, getD-drop}
 use mir.Syntax.{w64}
 use mir.Val.{toZ, ofZ}
 use Rattle.exact.proofs.Bits.{fits, back, of}
 use Rattle.exact.proofs.Order.{natAbs-+}
 use Rattle.exact.specs.Lists.{from}
-use Rattle.exact.proofs.Rooms.{begun, write-next, read-next, all-written}
+use Rattle.exact.proofs.Numbers.{from-add, length-map-from, map-from-at}
+use Rattle.exact.proofs.Rooms.{map-++, begun, write-next, read-next}
 use Rattle.words.specs.Given.{added}
 use Rattle.words.proofs.inner.add_to.Statement.{statement}
 use Rattle.words.proofs.inner.add_to.Tie as tie
@@ -19,13 +21,13 @@ abbrev both : List ℤ → List ℤ → ℕ → ℤ
 both row more k = getD row k (pos 0) +ℤ getD more k (pos 0)
 
 abbrev Inv-loop : tie.InvT-loop
-Inv-loop total₀ more j₀ total j = (j ≤ 24) × (total ≡ begun (both total₀ more) total₀ j)
+Inv-loop total₀ more j₀ j-end total j = (j-end ≡ length more) × (j ≤ j-end) × (total ≡ begun (both total₀ more) total₀ j)
 
 abbrev μ-loop : tie.MeasureT-loop
-μ-loop total₀ more j₀ total j = 24 - j
+μ-loop total₀ more j₀ j-end total j = j-end - j
 
 loop-holds : tie.Need-loop-holds Inv-loop μ-loop
-loop-holds c = (omega arith, refl)
+loop-holds c = (refl, omega arith, refl)
 
 mul-add : tie.Need-mul-add Inv-loop μ-loop
 mul-add c = omega arith
@@ -61,7 +63,7 @@ module _ (l : tie.At-loop Inv-loop μ-loop) (h : l .loop .j < 24) where
 
   read-old : toZ w64 (ofZ w64 (getD (l .loop .total) (l .loop .j) (pos 0))) ≡ old
   read-old =
-      ap (λ out. toZ w64 (ofZ w64 (getD out (l .loop .j) (pos 0)))) (l .loop .inv .1)
+      ap (λ out. toZ w64 (ofZ w64 (getD out (l .loop .j) (pos 0)))) (l .loop .inv .2)
       ∙ ap (λ z. toZ w64 (ofZ w64 z)) (read-next (both row more) row (l .loop .j) (pos 0) (omega (arith, long)))
       ∙ back (fits old (omega (arith, l .before .pre .0 .small (l .loop .j))))
 
@@ -71,11 +73,11 @@ module _ (l : tie.At-loop Inv-loop μ-loop) (h : l .loop .j < 24) where
 add-requires : tie.Need-add-requires Inv-loop μ-loop
 add-requires c κs =
     let l = c .before .before .before in
-    let h : l .loop .j < 24 = omega arith in
+    let h : l .loop .j < 24 = omega (arith, l .before .pre .1 .short) in
     rw (read-old l h, read-new l h) (small l h)
 
-mul-t13 : tie.Need-mul-t13 Inv-loop μ-loop
-mul-t13 c = omega arith
+mul-t14 : tie.Need-mul-t14 Inv-loop μ-loop
+mul-t14 c = omega arith
 
 element-set-from-total : tie.Need-element-set-from-total Inv-loop μ-loop
 element-set-from-total c = omega arith
@@ -89,19 +91,31 @@ loop-less c = omega arith
 loop-again : tie.Need-loop-again Inv-loop μ-loop
 loop-again c =
     let l = c .before .before .before .before in
-    let h : l .loop .j < 24 = omega arith in (
+    let h : l .loop .j < 24 = omega (arith, l .before .pre .1 .short) in (
+      refl,
       omega arith,
-      ap₂ (λ out x. set out (l .loop .j) x) (l .loop .inv .1)
+      ap₂ (λ out x. set out (l .loop .j) x) (l .loop .inv .2)
           (of (c .add .result) (c .add .ok) ∙ c .add .ensures ∙ ap₂ (λ a b. a +ℤ b) (read-old l h) (read-new l h))
           ∙ (write-next (both (row l h) (more l h)) (row l h) (l .loop .j) (pos 0) (omega (arith, long l h))),
     )
 
-returns : tie.Need-returns Inv-loop μ-loop
+-- past the end of `more` the row stays as it was
+rest-stays : (row more : List ℤ) (n : ℕ) → n ≡ length more → n ≤ 24 → length row ≡ 24 → begun (both row more) row n ≡ added row more
 unfolding added
+rest-stays row more n e h long =
+    ap (λ l. map (both row more) (from 0 n) ++ l) (ext-getD (pos 0) (drop n row) (map (both row more) (from (0 + n) (24 - n)))
+    (length-drop n row ∙ ap (λ k. k - n) long ∙ sym (length-map-from (both row more) (0 + n) (24 - n)))
+    (λ k l. getD-drop n row k (pos 0) ∙ sym (+ℤ-idr (getD row (n + k) (pos 0)))
+    ∙ ap (λ z. getD row (n + k) (pos 0) +ℤ z) (sym (List·getD-eq-default more (pos 0) {n = n + k} (omega arith)))
+    ∙ ap (both row more) (let d : n + k ≡ 0 + n + k = omega arith in d)
+    ∙ sym (map-from-at (both row more) (0 + n) (24 - n) k (pos 0) (omega (arith, length-drop n row)))))
+    ∙ sym (map-++ (both row more) (from 0 n) (from (0 + n) (24 - n)))
+    ∙ ap (map (both row more)) (sym (from-add 0 n (24 - n)) ∙ ap (from 0) (let d : n + (24 - n) ≡ 24 = omega arith in d))
+
+returns : tie.Need-returns Inv-loop μ-loop
 returns c =
-    let l = c .before in let row = l .before .args .total .now in let more = l .before .args .more .now in
-    let e : l .loop .j ≡ 24 = omega arith in
-    l .loop .inv .1 ∙ all-written (both row more) row (l .loop .j) (omega (arith, l .before .pre .0 .long)) ∙ ap (λ n. map (both row more) (from 0 n)) e
+    let l = c .before in let s = l .before in
+    l .loop .inv .2 ∙ rest-stays (s .args .total .now) (s .args .more .now) (l .loop .j) (omega arith) (omega (arith, s .pre .1 .short)) (s .pre .0 .long)
 
 pub add-to-spec : {M : Type 1} → statement M
 add-to-spec =
@@ -115,7 +129,7 @@ add-to-spec =
     mul-add-2
     shared-slice-copy-out-add
     add-requires
-    mul-t13
+    mul-t14
     element-set-from-total
     add-j
     loop-less

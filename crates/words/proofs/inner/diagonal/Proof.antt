@@ -12,12 +12,12 @@ use Rattle.exact.proofs.Bits.{of}
 use Rattle.rules.specs.Plan.{Plan, plan, columns, level, everyColumn}
 use Rattle.words.specs.Given.{withColumn, added}
 use Rattle.words.specs.Words.{diagonal}
-use Rattle.words.specs.Answers.{byLength, zeros}
+use Rattle.words.specs.Answers.{zeros, diagonalList}
 use Rattle.words.proofs.Laws.{score-same}
 use Rattle.words.proofs.Bound.{less-one}
 use Rattle.words.proofs.Columns.{soFar, so-far-none, so-far-more, so-far-of, length-so-far}
-use Rattle.words.proofs.OfPlan.{lessOne, diagonal-longer, diagonal-by-length, diagonal-small}
-use Rattle.words.proofs.Totals.{by-length-row, added-zeros}
+use Rattle.words.proofs.OfPlan.{lessOne, diagonal-longer, diagonal-by-length, diagonal-row}
+use Rattle.words.proofs.Totals.{by-length-row, whole-part, added-zeros}
 use Rattle.words.proofs.inner.diagonal.Statement.{statement}
 use Rattle.words.proofs.inner.diagonal.Tie as tie
 
@@ -93,24 +93,23 @@ part-add-to-end c =
 
 -- the sums from length 1 on
 longer : (c : tie.After-loop Inv-loop μ-loop) → let l = c .before in
-    take 24 (drop 1 (l .loop .sums)) ≡ byLength (diagonal (level (given (l .before .before))) (everyColumn (given (l .before .before))))
+    take 24 (drop 1 (l .loop .sums)) ≡ diagonalList (given (l .before .before))
 longer c =
     let l = c .before in let p = given (l .before .before) in
     let e : l .loop .i ≡ columns p = omega arith in
-    ap (λ r. take 24 (drop 1 r)) (l .loop .inv .2 ∙ ap (soFar (lessOne p)) e) ∙ diagonal-longer p ∙ diagonal-by-length p
+    ap (λ r. take 24 (drop 1 r)) (l .loop .inv .2 ∙ ap (soFar (lessOne p)) e) ∙ diagonal-longer p
 
 add-to-requires : tie.Need-add-to-requires Inv-loop μ-loop
 add-to-requires c κs =
     let d = c .before .before .before in let s = d .before .before .before in (
       by-length-row (λ j. pos 0) (2 ^ 61) (λ j. omega arith),
-      rw (longer d)
-          (by-length-row (diagonal (level (given s)) (everyColumn (given s))) (2 ^ 61) (λ j. omega (arith, diagonal-small (given s) [] (s .pre) j))),
+      rw (longer d) (whole-part (diagonal-row (given s) [] (s .pre) (2 ^ 61) (omega arith))),
     )
 
 returns : tie.Need-returns Inv-loop μ-loop
 returns c =
     let d = c .before .before .before .before in let p = given (d .before .before .before) in
-    c .add-to .ensures ∙ ap (added zeros) (longer d) ∙ added-zeros (diagonal (level p) (everyColumn p)) ∙ sym (diagonal-by-length p)
+    c .add-to .ensures ∙ ap (added zeros) (longer d ∙ diagonal-by-length p) ∙ added-zeros (diagonal (level p) (everyColumn p)) ∙ sym (diagonal-by-length p)
 
 pub diagonal-spec : {M : Type 1} → statement M
 diagonal-spec =

@@ -8,11 +8,10 @@ use lib.ListN.{length, getD, take, drop}
 use lib.Seq.{take-length}
 use Rattle.exact.proofs.Members.{getD-mem}
 use Rattle.rules.specs.Plan.{Plan, plan, highestProduct}
-use Rattle.words.proofs.Totals.{by-length-row, totals, totals-none, totals-next, totals-row}
+use Rattle.words.proofs.Totals.{totals, totals-none, totals-next, totals-row}
 use Rattle.words.specs.Given.{added}
-use Rattle.words.specs.Answers.{byLength}
 use Rattle.plan.specs.Good.{Sound}
-use Rattle.words.proofs.OfPlan.{ofPair, pair-longer, row-totals, sound-run, pair-small}
+use Rattle.words.proofs.OfPlan.{ofPair, row-totals, sound-run, pair-small, pair-added, pair-part}
 use Rattle.words.proofs.inner.row.Statement.{statement}
 use Rattle.words.proofs.inner.row.Tie as tie
 
@@ -69,16 +68,12 @@ part-add-to-start c = omega arith
 part-add-to-end : tie.Need-part-add-to-end Inv-loop μ-loop
 part-add-to-end c = omega arith
 
--- the pair's sums from length 1 on
-longer : (c : tie.After-pair Inv-loop μ-loop) → let l = c .before .before .before in take 24 (drop 1 (c .pair .result)) ≡ byLength (λ j. adds l j (run l))
-longer c = let l = c .before .before .before in ap (λ r. take 24 (drop 1 r)) (c .pair .ensures) ∙ pair-longer (given l) (start l .args .f) (run l)
-
 add-to-requires : tie.Need-add-to-requires Inv-loop μ-loop
 add-to-requires c κs =
     let d = c .before .before .before in let l = d .before .before .before in (
       rw (l .loop .inv .2) (totals-row (adds l) (runs l) (l .loop .k) highestProduct (2 ^ 61) (start l .pre .0 .few) (omega arith) (small l)),
-      rw (longer d) (by-length-row (λ j. adds l j (run l)) (2 ^ 61)
-          (λ j. omega (arith, small l (run l) (getD-mem (runs l) (l .loop .k) 0 (omega arith)) j))),
+      rw (d .pair .ensures) (pair-part (given l) (start l .args .f) (run l) 24 (start l .pre .1 .columns-high) (start l .pre .1)
+          (sound l (run l) (getD-mem (runs l) (l .loop .k) 0 (omega arith)))),
     )
 
 add-k : tie.Need-add-k Inv-loop μ-loop
@@ -92,7 +87,9 @@ loop-again c =
     let d = c .before .before .before .before in let l = d .before .before .before in (
       refl,
       omega arith,
-      c .add-to .ensures ∙ ap₂ added (l .loop .inv .2) (longer d) ∙ totals-next (adds l) (runs l) (l .loop .k) 0 (omega arith),
+      c .add-to .ensures ∙ ap₂ (λ row r. added row (take 24 (drop 1 r))) (l .loop .inv .2) (d .pair .ensures)
+          ∙ pair-added (given l) (start l .args .f) (run l) 24 (start l .pre .1 .columns-high) _
+          ∙ totals-next (adds l) (runs l) (l .loop .k) 0 (omega arith),
     )
 
 returns : tie.Need-returns Inv-loop μ-loop

@@ -6,14 +6,12 @@ use native.Mathlib.Omega.{arith}
 use lib.ListN.{drop}
 use lib.Seq.{drop-length}
 use Rattle.exact.proofs.Numbers.{length-from}
-use Rattle.rules.specs.Plan.{Plan, plan, runs, level, everyColumn, everyRun}
+use Rattle.rules.specs.Plan.{Plan, plan, runs, everyRun}
 use Rattle.plan.specs.Good.{Sound}
 use Rattle.plan.proofs.Sound.{run-at, good-sound}
-use Rattle.words.specs.Words.{diagonal}
 use Rattle.words.specs.Given.{added, bothOrders}
 use Rattle.words.specs.Answers.{rowList, diagonalList}
-use Rattle.words.proofs.Totals.{by-length-row}
-use Rattle.words.proofs.OfPlan.{sound-levels, diagonal-by-length, diagonal-small}
+use Rattle.words.proofs.OfPlan.{sound-levels, diagonal-row}
 use Rattle.words.proofs.Once.{onceList, once-none, once-turn, once-row, word-once}
 use Rattle.words.proofs.inner.words_of_plan.Statement.{statement}
 use Rattle.words.proofs.inner.words_of_plan.Tie as tie
@@ -84,7 +82,7 @@ both-orders-requires c κs =
     let d = c .before .before in let l = d .before .before in let p = given l in (
       rw (l .loop .inv .1) (once-row p (everyRun p) (sound l) (l .loop .f)),
       (
-        rw (own d, diagonal-by-length p) (by-length-row (diagonal (level p) (everyColumn p)) (2 ^ 32) (λ j. omega (arith, diagonal-small p (everyRun p) (sound l) j))),
+        rw (own d) (diagonal-row p (everyRun p) (sound l) (2 ^ 32) (omega arith)),
         omega (arith, start l .pre .runs-high),
       ),
     )
