@@ -24,6 +24,7 @@ static const struct {
     { "ratio", ratio_of_library },
     { "ratio-in-c", ratio_of_c },
     { "ratio-before-in-c", ratio_before_of_c },
+    { "listing", listing_of_library },
 };
 
 static Work *work_of(const char *name)

@@ -23,11 +23,10 @@ use Rattle.resolution.specs.Resolution.{resolutionIn, ratioIn, resolutionChecks
 use Rattle.resolution.proofs.Resolved.{resolution-is}
 use Rattle.held.specs.declared.Held.{Held}
 use Rattle.held.specs.declared.HeldAnswer.{HeldAnswer}
-use Rattle.held.specs.Held.{IsHeld, planIn, openAnswer, strikes, reinstates}
+use Rattle.held.specs.Held.{IsHeld, planIn, openAnswer, strikes, reinstates, ofStanding}
 use Rattle.held.specs.History.{isAccepted}
 use Rattle.held.proofs.History.{call-held, undo}
 use Rattle.standing.specs.declared.HeldWord.{HeldWord}
-use Rattle.held.specs.Held.{ofStanding}
 use Rattle.standing.specs.Answers.{heldWord}
 use Rattle.bench.specs.Exports.{round, rounds}
 

@@ -15,7 +15,7 @@ ghost use Rattle.rules.specs.Plan.{plan, columns, level, entry, everyColumn, ev
 ghost use Rattle.rules.specs.Refusals.{ofPlan};
 ghost use Rattle.plan.specs.Good.{Sound};
 ghost use Rattle.words.specs.Words.{wordOf, word};
-ghost use Rattle.counts.specs.Parts.{counted};
+ghost use Rattle.parts.specs.Parts.{counted};
 ghost use Rattle.projections.specs.Given.{Projection, SizeOf};
 ghost use Rattle.frequencies.specs.Frequencies.{rooms, tableIn, tableRooms};
 ghost use Rattle.held.specs.Held.{IsHeld};
@@ -124,7 +124,7 @@ fn word_by(
     if by_pairs {
         return word_by_pairs(levels, table, runs, columns);
     }
-    counts::parts::word(levels, table, runs, columns, counters)
+    parts::word(levels, table, runs, columns, counters)
 }
 
 // The words of all sets of f columns, added up.

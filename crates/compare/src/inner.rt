@@ -82,8 +82,8 @@ pub(crate) fn side_of(levels: &[u8], table: &[u8]) -> Side
     ensures { λ r. ⌜ r ≡ wholeSide (plan (now (levels .entry)) (now (table .entry))) ⌝ }
 {
     let checked = plan::inner::checked_runs(levels, table);
-    let answer = words::words(levels, table);
     let refused = checked.refused;
+    let answer = words::inner::words_answer(refused, levels, table);
     let words = answer.words;
     Side {
         refused,

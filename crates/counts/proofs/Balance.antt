@@ -2,7 +2,7 @@
 use mathlib.Core.Path.{_≡_, refl, sym, _∙_, subst}
 use mathlib.Core.List.{List, [], _∷_, map, List·Memᴰ, List·Memᴰ·head, List·Memᴰ·tail, Memᴰ·map, Memᴰ·of-map}
 use mathlib.Core.List.{List·Memᴰ·not-nil}
-use Prim.Native.Nat.{ℕ, zero, suc, _≤_, _<_}
+use Prim.Native.Nat.{ℕ, zero, suc, _<_}
 use native.Mathlib.Omega.{arith}
 use lib.Dec.{T, eqb, eqb-refl}
 use lib.ListN.{length}
@@ -11,6 +11,7 @@ use Rattle.exact.proofs.Tests.{all-mem, mem-all}
 use Rattle.exact.proofs.Searches.{largest-is}
 use Rattle.sets.specs.Sets.{choose}
 use Rattle.counts.specs.Counts.{combinations, tally, even, balanced, strength}
+use Rattle.counts.specs.Strength.{Even, IsStrength}
 use Rattle.counts.proofs.Counted.{alike-first}
 
 alike-mem : (xs : List ℕ) → T (alike xs) → (x y : ℕ) → List·Memᴰ x xs → List·Memᴰ y xs → x ≡ y
@@ -23,18 +24,13 @@ mem-alike (z ∷ zs) h =
     mem-all (λ y. eqb z y) zs (λ y m. subst (λ x. T (eqb z x)) (h z y (List·Memᴰ·head refl) (List·Memᴰ·tail m)) (eqb-refl z))
 
 module _ {R C : Type 0} (level : C → ℕ) (entry : R → C → ℕ) (rs : List R) where
-  -- every two level combinations of the columns J occur equally often
-  abbrev pub Even : List C → Type 0
-  Even J = (P Q : List ℕ) → List·Memᴰ P (combinations level J) → List·Memᴰ Q (combinations level J) →
-      tally entry rs J P ≡ tally entry rs J Q
-
-  pub even→Even : (J : List C) → T (even level entry rs J) → Even J
+  pub even→Even : (J : List C) → T (even level entry rs J) → Even level entry rs J
   unfolding even
   even→Even J t P Q p q =
       alike-mem (map (tally entry rs J) (combinations level J)) t (tally entry rs J P) (tally entry rs J Q)
       (Memᴰ·map (tally entry rs J) p) (Memᴰ·map (tally entry rs J) q)
 
-  pub Even→even : (J : List C) → Even J → T (even level entry rs J)
+  pub Even→even : (J : List C) → Even level entry rs J → T (even level entry rs J)
   unfolding even
   Even→even J h =
       let n = tally entry rs J in
@@ -44,19 +40,13 @@ module _ {R C : Type 0} (level : C → ℕ) (entry : R → C → ℕ) (rs : List
       let (Q, q, e) = Memᴰ·of-map n (combinations level J) k in
       sym d ∙ h P Q p q ∙ e)
 
-  -- t is the largest such that in every choice of t columns all level combinations occur equally often
-  pub record IsStrength (cols : List C) (t : ℕ) : Type 0 where
-    pub fits : t ≤ length cols
-    pub all-even : (J : List C) → List·Memᴰ J (choose t cols) → Even J
-    pub most : (u : ℕ) → u ≤ length cols → ((J : List C) → List·Memᴰ J (choose u cols) → Even J) → u ≤ t
-
   -- t = 0 always passes
   pub passed : (cols : List C) (t : ℕ) → (0 < t → T (balanced level entry rs cols t)) → T (balanced level entry rs cols t)
   unfolding balanced even
   passed cols zero h = tt
   passed cols (suc t) h = h (omega arith)
 
-  pub strength-is : (cols : List C) → IsStrength cols (strength level entry rs cols)
+  pub strength-is : (cols : List C) → IsStrength level entry rs cols (strength level entry rs cols)
   unfolding strength balanced
   strength-is cols =
       let L = largest-is (balanced level entry rs cols) (length cols) in
@@ -67,5 +57,5 @@ module _ {R C : Type 0} (level : C → ℕ) (entry : R → C → ℕ) (rs : List
         most = λ u l h. L .most u l (mem-all (even level entry rs) (choose u cols) (λ J m. Even→even J (h J m)));
       }
 
-  pub strength-unique : (cols : List C) (t u : ℕ) → IsStrength cols t → IsStrength cols u → t ≡ u
+  pub strength-unique : (cols : List C) (t u : ℕ) → IsStrength level entry rs cols t → IsStrength level entry rs cols u → t ≡ u
   strength-unique cols t u S U = omega (arith, S .most u (U .fits) (U .all-even), U .most t (S .fits) (S .all-even))

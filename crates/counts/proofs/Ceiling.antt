@@ -12,7 +12,8 @@ use Rattle.exact.specs.Lists.{sum, prod}
 use Rattle.exact.proofs.Ring.{ring, *-one}
 use Rattle.exact.proofs.Order.{≤-+, nonneg, 0≤-*, *-mono}
 use Rattle.exact.proofs.Sums.{sum-cong, prod-cong, sum-*, sum-const, sum-swap, prod-at}
-use Rattle.sets.proofs.Choose.{subsets, sum-subsets}
+use Rattle.sets.specs.Sets.{subsets}
+use Rattle.sets.proofs.Choose.{sum-subsets}
 use Rattle.sets.proofs.Parts.{Part, sum-parts, parts-top, parts-bottom, part-length, part-wider, part-insert}
 use Rattle.words.specs.Words.{score, scoreAt, wordOf}
 use Rattle.words.proofs.Squares.{agree, score-agree}

@@ -8,10 +8,3 @@ pub mod Shown
 pub mod Wordless
 pub mod Several
 pub mod Ceiling
-pub mod Agreeing
-pub mod WordCounts
-pub mod Squared
-pub mod OverParts
-pub mod FromCounts
-pub mod Turned
-pub mod OnlyWord

@@ -20,7 +20,8 @@ use Rattle.words.proofs.Squares.{agree}
 use Rattle.words.proofs.Positive.{wordOf-weighed, wordOf-nonneg}
 use Rattle.counts.specs.Counts.{combinations, tally, even, balanced}
 use Rattle.counts.proofs.Numbered.{mem-combinations}
-use Rattle.counts.proofs.Balance.{Even, even→Even, Even→even, IsStrength}
+use Rattle.counts.specs.Strength.{Even, IsStrength}
+use Rattle.counts.proofs.Balance.{even→Even, Even→even}
 use Rattle.counts.proofs.Shown.{combinations-mem, has, has-nil, has-cons, tally-sum}
 use Rattle.counts.proofs.Even.{AllBelow, Vanish, Vanish⁺, Scaled, sum-zero, cancel-eq, zero→vanish, vanish→zero, vanish→scaled, scaled→vanish}
 

@@ -1,3 +1,3 @@
 pub mod Counts
 pub mod Numbered
-pub mod Parts
+pub mod Strength

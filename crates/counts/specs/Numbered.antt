@@ -6,6 +6,10 @@ use lib.ListN.{length, getD}
 use Rattle.exact.specs.Lists.{from, count, product}
 use Rattle.rules.specs.Plan.{Plan, level, entry, mostRuns}
 
+-- the combinations of 4 columns of 16 levels
+abbrev pub mostNumbers : ℕ
+mostNumbers = 65_536
+
 module _ {C : Type 0} (level : C → ℕ) where
   -- how many combinations the columns J have: the product of their levels
   abbrev pub productOf : List C → ℕ

@@ -12,8 +12,7 @@ ghost use Rattle.exact.specs.Lists.{alike};
 ghost use Rattle.rules.specs.Plan.{plan, level, entry, everyColumn, mostColumns, mostRuns};
 ghost use Rattle.plan.specs.Good.{Sound};
 ghost use Rattle.counts.specs.Counts.{even, balanced, strength, strengthBeside};
-ghost use Rattle.counts.specs.Numbered.{productOf, numberOf, tallies, Columns};
-ghost use Rattle.counts.specs.Parts.{mostNumbers};
+ghost use Rattle.counts.specs.Numbered.{mostNumbers, productOf, numberOf, tallies, Columns};
 
 // How many combinations the columns have, the product of their levels; limit + 1 where that is above limit.
 pub fn product_of(levels: &[u8], columns: &[usize], limit: usize) -> usize

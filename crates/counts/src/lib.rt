@@ -1,6 +1,5 @@
 // Strength, found by counting level combinations (document 01, "Strength, resolution, projections").
 pub mod inner;
-pub mod parts;
 
 use rules::Refusal;
 ghost use mathlib.Core.Path.{_≡_};

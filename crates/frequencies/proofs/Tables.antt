@@ -4,7 +4,7 @@ use mathlib.Core.Bool.{true, false, cond}
 use mathlib.Core.Logic.{_⊎_, inl, inr}
 use mathlib.Core.List.{List, [], _∷_, _++_, map, List·Memᴰ, List·Memᴰ·head, List·Memᴰ·tail, List·Memᴰ·not-nil}
 use mathlib.Core.List.{List·Memᴰ·append-cases, List·Memᴰ·eq-of-singleton, Memᴰ·append-left, Memᴰ·append-right, Memᴰ·map, Memᴰ·of-map}
-use Prim.Native.Nat.{ℕ, suc, _+_, _≤_, _<_}
+use Prim.Native.Nat.{suc, _+_, _≤_, _<_}
 use native.Mathlib.Omega.{arith}
 use lib.ListN.{length, length-append, length-map}
 use Rattle.exact.specs.Fractions.{smallerFraction, isEqual}
@@ -15,6 +15,7 @@ use Rattle.exact.specs.Lawful.{opposite}
 use Rattle.exact.proofs.Lawful.{fractions}
 use Rattle.exact.proofs.Lists.{grown, count-snoc, count-none, map-cong-in}
 use Rattle.frequencies.specs.Frequencies.{Line, line, pick, insert, insertAll, distinct, times, tableOf, oneMore}
+use Rattle.frequencies.specs.Properties.{Below, Rising, countedIn, IsTable}
 
 -- ---- verdicts
 
@@ -26,15 +27,6 @@ Proper x = 0 < x .den
 
 abbrev EachProper : List Fraction → Type 0
 EachProper xs = (x : Fraction) → List·Memᴰ x xs → Proper x
-
--- x is smaller than each of the values
-abbrev Below : Fraction → List Fraction → Type 0
-Below x ys = (y : Fraction) → List·Memᴰ y ys → smallerFraction x y ≡ Better
-
--- each value is smaller than every later one
-abbrev pub Rising : List Fraction → Type 0
-Rising [] = Unit {0}
-Rising (x ∷ xs) = Below x xs × Rising xs
 
 -- ---- a value put among rising values
 
@@ -242,11 +234,6 @@ module _ (vs : List Fraction) (v : Fraction) (proper : EachProper (vs ++ v ∷ [
 
 -- ---- the table
 
--- how many sets the lines count in all
-abbrev pub countedIn : List Line → ℕ
-countedIn [] = 0
-countedIn (l ∷ ls) = l .sets + countedIn ls
-
 one-counted : (v : Fraction) (ls : List Line) → countedIn (oneMore v ls) ≡ countedIn ls + 1
 one-counted v [] = refl
 one-counted v (l ∷ ls) = go (smallerFraction (l .value) v) (one-counted v ls)
@@ -265,15 +252,6 @@ all-counted : (vs : List Fraction) → EachProper vs → countedIn (tableOf vs) 
 all-counted =
     grown (λ vs. EachProper vs → countedIn (tableOf vs) ≡ length vs) (λ g. ap countedIn table-none)
     (λ vs v ih g. rw (table-next vs v g) (one-counted v (tableOf vs) ∙ omega (arith, ih (others-proper vs v g), length-append vs (v ∷ []))))
-
--- the lines of a table of the values: strictly rising, none made up, none lost, each with its count, every set counted
-pub record IsTable (vs : List Fraction) (ls : List Line) : Type 0 where
-  pub rising : Rising (map (λ l. l .value) ls)
-  pub occurs : (l : Line) → List·Memᴰ l ls → List·Memᴰ (l .value) vs
-  pub complete : (x : Fraction) → List·Memᴰ x vs → (l : Line) × List·Memᴰ l ls × (smallerFraction (l .value) x ≡ Equal)
-  pub counts : (l : Line) → List·Memᴰ l ls → l .sets ≡ times vs (l .value)
-  pub counted : countedIn ls ≡ length vs
-  pub fewer : length ls ≤ length vs
 
 pub table-is : (vs : List Fraction) → EachProper vs → IsTable vs (tableOf vs)
 unfolding tableOf

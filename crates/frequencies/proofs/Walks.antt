@@ -30,7 +30,8 @@ use Rattle.projections.specs.Given.{SizeOf, Tabled, Projection}
 use Rattle.frequencies.specs.Given.{Fillable, Wide}
 use Rattle.projections.proofs.Products.{part-projection}
 use Rattle.projections.proofs.Values.{value-short}
-use Rattle.frequencies.proofs.Tables.{IsTable, countedIn, table-none, table-next, table-is}
+use Rattle.frequencies.specs.Properties.{countedIn, IsTable}
+use Rattle.frequencies.proofs.Tables.{table-none, table-next, table-is}
 
 -- ---- lines put into rooms, and read again
 

@@ -1,2 +1,3 @@
 pub mod Frequencies
 pub mod Given
+pub mod Properties

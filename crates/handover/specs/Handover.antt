@@ -7,8 +7,7 @@ use Rattle.rules.specs.Plan.{mostColumns}
 use Rattle.rules.specs.Refusals.{refusal, accepted, unless, orElse, badRoom}
 use Rattle.held.specs.declared.Held.{Held}
 use Rattle.held.specs.declared.HeldAnswer.{HeldAnswer}
-use Rattle.held.specs.Held.{planIn, standingIn, openAnswer, strikes, callAnswer}
-use Rattle.held.specs.Held.{ofStanding}
+use Rattle.held.specs.Held.{planIn, standingIn, openAnswer, strikes, callAnswer, ofStanding}
 use Rattle.text.specs.Text.{planOf}
 use Rattle.text.specs.Reader.{readRefusal, filled}
 use Rattle.writer.specs.Writer.{textOf}

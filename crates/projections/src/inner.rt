@@ -17,7 +17,7 @@ ghost use Rattle.rules.specs.Plan.{plan, level, entry, mostRuns, highestLevel};
 ghost use Rattle.rules.specs.Refusals.{refusal, orElse};
 ghost use Rattle.plan.specs.Good.{Sound};
 ghost use Rattle.words.specs.Words.{wordOf};
-ghost use Rattle.counts.specs.Parts.{counted, OnlyWord};
+ghost use Rattle.parts.specs.Parts.{counted, OnlyWord};
 ghost use Rattle.projections.specs.Given.{Projection, Starts, Tabled, SomeColumns, productOf, pairOf, overPairs};
 ghost use Rattle.projections.specs.Projections.{relativeOf, valueIn, setWordChecks, setWordBeside};
 
@@ -94,7 +94,7 @@ fn word_by_counts(levels: &[u8], table: &[u8], runs: &[usize], columns: &[usize]
         r ≡ wordOf (level p) (entry p) (now (runs .entry)) (now (columns .entry))) ⌝ }
 {
     let mut counters = [0u16; 65536];
-    counts::parts::word(levels, table, runs, columns, &mut counters)
+    parts::word(levels, table, runs, columns, &mut counters)
 }
 
 // W(I) of the runs by the engine that is faster: by counts from so many runs on that the counters are worth making.
@@ -132,7 +132,7 @@ fn word_in_walk(
     if runs.len() < FEW_RUNS_OF_A_WALK {
         return word_by_pairs(levels, table, runs, columns);
     }
-    counts::parts::word(levels, table, runs, columns, counters)
+    parts::word(levels, table, runs, columns, counters)
 }
 
 // W(I) of the runs, by the engine that is named.
@@ -272,7 +272,7 @@ pub fn ratio(
 {
     let lowest = wide(smallest_level(levels, columns));
     if 1 < lowest {
-        let word = counts::parts::only_word(levels, table, runs, columns, counters);
+        let word = parts::only_word(levels, table, runs, columns, counters);
         return over(word, runs.len(), lowest - 1);
     }
     Fraction { num: 0, den: 1 }

@@ -17,11 +17,11 @@ use Rattle.plan.specs.Good.{Sound}
 use Rattle.words.specs.Words.{wordOf, word}
 use Rattle.words.proofs.Positive.{word-nonneg}
 use Rattle.counts.specs.Counts.{strength}
-use Rattle.counts.specs.Parts.{NoneShorter}
+use Rattle.parts.specs.Parts.{NoneShorter}
 use Rattle.counts.proofs.Balance.{strength-is}
 use Rattle.counts.proofs.Even.{AllBelow}
 use Rattle.counts.proofs.Wordless.{resolution-strength}
-use Rattle.counts.proofs.OnlyWord.{chosen-only, only-ceiling}
+use Rattle.parts.proofs.OnlyWord.{chosen-only, only-ceiling}
 use Rattle.resolution.specs.Resolution.{resolution, resolutionIn}
 use Rattle.resolution.proofs.Resolved.{resolution-is}
 

@@ -13,6 +13,7 @@ use Rattle.exact.specs.declared.fractions.Verdict.the-variants.{Better, Worse, 
 use Rattle.exact.proofs.Lists.{grown}
 use Rattle.exact.proofs.Lawful.{fractions}
 use Rattle.resolution.specs.Resolution.{greater, greatestFrom, greatest}
+use Rattle.resolution.specs.Properties.{IsGreatest}
 
 from-snoc : (x : Fraction) (ys : List Fraction) (y : Fraction) → greatestFrom x (ys ++ y ∷ []) ≡ greater (greatestFrom x ys) y
 from-snoc x [] y = refl
@@ -34,11 +35,6 @@ greater-of P x y p q = go (isBetter (smallerFraction x y))
     go : (b : Bool) → P (cond b y x)
     go true = q
     go false = p
-
--- g is one of the fractions, or 0/1, and none of them is greater
-pub record IsGreatest (xs : List Fraction) (g : Fraction) : Type 0 where
-  pub among : (g ≡ zeroFraction) ⊎ List·Memᴰ g xs
-  pub none-above : (x : Fraction) → List·Memᴰ x xs → ¬ (smallerFraction g x ≡ Better)
 
 abbrev EachProper : List Fraction → Type 0
 EachProper xs = (x : Fraction) → List·Memᴰ x xs → 0 < x .den

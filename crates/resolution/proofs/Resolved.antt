@@ -4,7 +4,6 @@ use mathlib.Core.Bool.{Bool}
 use mathlib.Core.List.{List}
 use Prim.Native.Nat.{ℕ, zero, suc, _+_, _≤_, _<_}
 use native.Mathlib.Omega.{arith}
-use lib.Dec.{T}
 use lib.IntN.{pos}
 use lib.ListN.{length}
 use lib.Signed.{ltZ}
@@ -16,26 +15,20 @@ use Rattle.words.specs.Words.{word}
 use Rattle.words.specs.Answers.{wordList}
 use Rattle.words.proofs.Answered.{word-at}
 use Rattle.resolution.specs.Resolution.{resolution, resolutionIn}
+use Rattle.resolution.specs.Properties.{IsResolution}
 use Rattle.resolution.specs.Given.{isAbove, firstAbove}
 
 module _ {R C : Type 0} (level : C → ℕ) (entry : R → C → ℕ) (rs : List R) (cols : List C) where
-  -- the smallest j from 1 to m with W_j above zero, and m + 1 where there is none
-  pub record IsResolution (r : ℕ) : Type 0 where
-    pub low : 1 ≤ r
-    pub high : r ≤ length cols + 1
-    pub above-zero : r ≤ length cols → T (ltZ (pos 0) (word level entry rs cols r))
-    pub least : (j : ℕ) → 1 ≤ j → j < r → ¬ (T (ltZ (pos 0) (word level entry rs cols j)))
-
-  pub resolution-is : IsResolution (resolution level entry rs cols)
+  pub resolution-is : IsResolution level entry rs cols (resolution level entry rs cols)
   unfolding resolution
   resolution-is =
       let F = first-is (λ j. ltZ (pos 0) (word level entry rs cols j)) 1 (length cols) in
       record { low = F .from-a; high = omega (arith, F .within); above-zero = λ h. F .passes (omega arith); least = F .none-before }
 
-  pub resolution-unique : (r s : ℕ) → IsResolution r → IsResolution s → r ≡ s
+  pub resolution-unique : (r s : ℕ) → IsResolution level entry rs cols r → IsResolution level entry rs cols s → r ≡ s
   resolution-unique r s I J = first-unique (λ j. ltZ (pos 0) (word level entry rs cols j)) 1 (length cols) r s (is r I) (is s J)
     where
-      is : (r : ℕ) → IsResolution r → IsFirst (λ j. ltZ (pos 0) (word level entry rs cols j)) 1 (length cols) r
+      is : (r : ℕ) → IsResolution level entry rs cols r → IsFirst (λ j. ltZ (pos 0) (word level entry rs cols j)) 1 (length cols) r
       is r I = record { from-a = I .low; within = omega (arith, I .high); passes = λ h. I .above-zero (omega arith); none-before = I .least }
 
 -- tests that agree have the same first number

@@ -12,18 +12,11 @@ use Rattle.exact.specs.declared.fractions.Fraction.{Fraction}
 use Rattle.exact.proofs.Tests.{is-false}
 use Rattle.exact.proofs.Searches.{IsFirst, first-is}
 use Rattle.resolution.specs.Resolution.{rootOf, thousandthsOf}
+use Rattle.resolution.specs.Properties.{IsRoot, IsThousandths}
 
 -- whether q² · den is at least 1,000,000 · num
 abbrev pub enough : Fraction → ℕ → Bool
 enough x q = leb (1_000_000 * x .num) (q * q * x .den)
-
--- the square root of the ratio lies above (q - 1) / 1000 and not above q / 1000; of ratio 0 q is 0
-pub record IsRoot (x : Fraction) (q : ℕ) : Type 0 where
-  pub high : q ≤ 1000
-  pub enough : 1_000_000 * x .num ≤ q * q * x .den
-  pub close : 0 < q → (q - 1) * (q - 1) * x .den < 1_000_000 * x .num
-  pub least : (k : ℕ) → k < q → k * k * x .den < 1_000_000 * x .num
-  pub zero : x .num ≡ 0 → q ≡ 0
 
 pub root-is : (x : Fraction) → x .num ≤ x .den → IsRoot x (rootOf x)
 unfolding rootOf
@@ -62,12 +55,6 @@ root-unique x q k I J = go (decLt q k) (decLt k q)
     go (yes l) m = absurd (omega (arith, J .least q l, I .enough))
     go (no l) (yes m) = absurd (omega (arith, I .least k m, J .enough))
     go (no l) (no m) = omega arith
-
--- t is GR = R + 1 - √(num / den) in thousandths: never above it, less than one thousandth below it, and exact for ratio 0
-pub record IsThousandths (R : ℕ) (x : Fraction) (t : ℕ) : Type 0 where
-  pub not-above : 1_000_000 * x .num ≤ (1000 * (R + 1) - t) * (1000 * (R + 1) - t) * x .den
-  pub close : 0 < x .num → (1000 * (R + 1) - (t + 1)) * (1000 * (R + 1) - (t + 1)) * x .den < 1_000_000 * x .num
-  pub exact : x .num ≡ 0 → t ≡ 1000 * (R + 1)
 
 pub thousandths-is : (R : ℕ) (x : Fraction) → x .num ≤ x .den → IsThousandths R x (thousandthsOf R x)
 thousandths-is R x h =

@@ -17,8 +17,8 @@ use Rattle.sets.specs.Sets.{binom, choose}
 use Rattle.sets.proofs.Parts.{choose-part}
 use Rattle.sets.proofs.Pascal.{length-choose}
 use Rattle.sets.proofs.Among.{chosen}
-use Rattle.counts.specs.Parts.{NoneShorter, OnlyWord}
-use Rattle.counts.proofs.OnlyWord.{chosen-only}
+use Rattle.parts.specs.Parts.{NoneShorter, OnlyWord}
+use Rattle.parts.proofs.OnlyWord.{chosen-only}
 use Rattle.projections.specs.Given.{Projection, Tabled}
 use Rattle.projections.specs.Projections.{relativeOf}
 use Rattle.projections.proofs.Products.{within-projection}

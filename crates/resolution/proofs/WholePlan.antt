@@ -14,14 +14,13 @@ use Rattle.plan.specs.declared.inner.Checked.{Checked}
 use Rattle.plan.specs.Given.{checkedOf}
 use Rattle.plan.specs.Good.{Good}
 use Rattle.plan.proofs.Checks.{passed-good, good-passed, plan-refused, plan-passed}
-use Rattle.plan.proofs.CheckedRuns.{handed-refusal, handed-value}
+use Rattle.plan.proofs.CheckedRuns.{checked-refusal, handed-refusal, handed-value}
 use Rattle.words.specs.declared.WordsAnswer.{WordsAnswer}
-use Rattle.words.specs.Answers.{wordsAnswer}
+use Rattle.words.specs.Answers.{wordsBeside, wordsAnswer}
 use Rattle.projections.proofs.Answers.{good-tabled}
 use Rattle.resolution.specs.Resolution.{resolutionChecks, generalizedAnswer}
 use Rattle.resolution.specs.Charts.{columnChecks, chartAnswer, figureAnswer}
-use Rattle.resolution.specs.Given.{Measured, refusing, measures, measuresBeside, ratingBeside, Small}
-use Rattle.resolution.specs.Given.{generalizedFrom, chartFrom, figureFrom}
+use Rattle.resolution.specs.Given.{Measured, refusing, measures, measuresBeside, ratingBeside, Small, generalizedFrom, chartFrom, figureFrom}
 use Rattle.resolution.specs.declared.inner.Rating.{Rating}
 use Rattle.resolution.proofs.Rated.{rating-small}
 use Rattle.resolution.proofs.Answered.{generalized-answered, chart-answered, figure-answered}
@@ -37,6 +36,11 @@ module _ (p : Plan) where
       go (no n) = plan-refused p checks turn e n ∙ sym (or-refused r (refusal checks) n)
 
   -- its words, behind that refusal
+  pub words-handed : {k : Checked} → k ≡ checkedOf p → {x : WordsAnswer} → x ≡ wordsBeside p (everyRun p) (k .refused) →
+      x ≡ wordsAnswer p (everyRun p) (ofPlan p)
+  unfolding wordsAnswer
+  words-handed e f = f ∙ ap (wordsBeside p (everyRun p)) (checked-refusal p e)
+
   module _ {x : WordsAnswer} (e : x ≡ wordsAnswer p (everyRun p) (ofPlan p)) where
     pub words-refusal : x .refused ≡ refusal (planChecks p)
     unfolding wordsAnswer

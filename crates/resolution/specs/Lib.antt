@@ -1,3 +1,4 @@
 pub mod Resolution
 pub mod Charts
 pub mod Given
+pub mod Properties

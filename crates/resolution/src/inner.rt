@@ -17,7 +17,7 @@ ghost use Rattle.exact.specs.Lists.{holds};
 ghost use Rattle.rules.specs.Plan.{plan, columns, level, entry, everyRun, everyColumn, mostColumns};
 ghost use Rattle.rules.specs.Refusals.{refusal, planChecks};
 ghost use Rattle.sets.specs.Sets.{choose, setsOf};
-ghost use Rattle.counts.specs.Parts.{NoneShorter};
+ghost use Rattle.parts.specs.Parts.{NoneShorter};
 ghost use Rattle.projections.specs.Given.{Projection, Tabled};
 ghost use Rattle.resolution.specs.Resolution.{greater, resolutionChecks};
 ghost use Rattle.resolution.specs.Given.{Measured, wordIn, firstAbove, ratiosOf, refusing, measuresBeside, ratingBeside};
@@ -216,7 +216,7 @@ pub(crate) fn rate_plan(levels: &[u8], table: &[u8], column: usize) -> Rating
     let checked = plan::inner::checked_runs(levels, table);
     let runs = checked.runs;
     let count = checked.count;
-    let answer = words::words(levels, table);
+    let answer = words::inner::words_answer(checked.refused, levels, table);
     let words = answer.words;
     rate_answer(
         checked.refused,

@@ -7,8 +7,7 @@ use lib.IntN.{ℤ, pos, negℤ}
 use lib.ListN.{length, getD}
 use Rattle.exact.specs.Lists.{all, keep, each, product, rise, outside, first}
 use Rattle.rules.specs.declared.Refusal.{Refusal}
-use Rattle.rules.specs.Plan.{Plan, columns, runs, level}
-use Rattle.rules.specs.Plan.{mostColumns, mostRuns, lowestLevel, highestLevel, highestProduct, longestText}
+use Rattle.rules.specs.Plan.{Plan, columns, runs, level, mostColumns, mostRuns, lowestLevel, highestLevel, highestProduct, longestText}
 
 -- ---- a refusal carries its number and two place numbers; number 0 is no refusal
 

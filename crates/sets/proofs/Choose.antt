@@ -11,14 +11,9 @@ use Rattle.exact.proofs.Ring.{ring}
 use Rattle.exact.proofs.Sums.{sum-++, sum-map, sum-*}
 use Rattle.exact.proofs.Lists.{keep-++, keep-map, keep-none, map-map}
 use Rattle.exact.proofs.Rooms.{map-++}
-use Rattle.sets.specs.Sets.{choose}
+use Rattle.sets.specs.Sets.{choose, subsets}
 
 module _ {A : Type 0} where
-  -- every set of members of the list
-  abbrev pub subsets : List A → List (List A)
-  subsets [] = [] ∷ []
-  subsets (x ∷ xs) = map (λ I. x ∷ I) (subsets xs) ++ subsets xs
-
   -- the sum, over the sets of j members, of the product of f over the set, a member at a time
   abbrev pub esp : ℕ → List A → (A → ℤ) → ℤ
   esp zero xs f = pos 1

@@ -12,8 +12,7 @@ use lib.IntN.{ℤ, pos, _+ℤ_, +ℤ-idl, +ℤ-comm}
 use Rattle.exact.specs.Lists.{sum}
 use Rattle.exact.specs.Lists as lists
 use Rattle.exact.proofs.Sums.{sum-++, sum-map}
-use Rattle.sets.specs.Sets.{choose}
-use Rattle.sets.proofs.Choose.{subsets}
+use Rattle.sets.specs.Sets.{choose, subsets}
 
 module _ {A : Type 0} where
   -- I is made of members of K, in K's order

@@ -15,6 +15,11 @@ module _ {A : Type 0} where
   choose (suc j) [] = []
   choose (suc j) (x ∷ xs) = map (λ I. x ∷ I) (choose j xs) ++ choose (suc j) xs
 
+  -- every set of members of the list
+  abbrev pub subsets : List A → List (List A)
+  subsets [] = [] ∷ []
+  subsets (x ∷ xs) = map (λ I. x ∷ I) (subsets xs) ++ subsets xs
+
 -- the binomials, by Pascal's rule; zero where b is above a
 abbrev pub binom : ℕ → ℕ → ℕ
 binom a zero = 1

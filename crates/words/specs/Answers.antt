@@ -40,8 +40,12 @@ module _ (p : Plan) (rs : List ℕ) where
   unfoldable pub rowsByRun : List Sums
   rowsByRun = map (λ f. record { sums = cond (holds f rs) (rowList f) zeros }) (from 0 mostRuns)
 
+  -- the refusal, and beside it the words
+  abbrev pub wordsBeside : Refusal → WordsAnswer
+  wordsBeside r = record { refused = r; words = unless r zeros wordList }
+
   unfoldable pub wordsAnswer : (List Check → List Check) → WordsAnswer
-  wordsAnswer start = let r = refusal (start []) in record { refused = r; words = unless r zeros wordList }
+  wordsAnswer start = wordsBeside (refusal (start []))
 
   unfoldable pub wordAnswer : (List Check → List Check) → ℕ → WordAnswer
   wordAnswer start j =

@@ -1,6 +1,7 @@
 // For our own crates: row sums over some runs of a plan, each named by its number, as the runs that stand are; and the words of all its runs.
 use crate::RowSumsAnswer;
 use crate::Sums;
+use crate::WordsAnswer;
 use exact::signed;
 use rules::Refusal;
 ghost use mathlib.Core.Path.{_≡_};
@@ -13,7 +14,7 @@ ghost use Rattle.rules.specs.Refusals.{refusal, badLength};
 ghost use Rattle.plan.specs.Good.{Good, Sound};
 ghost use Rattle.words.specs.Words.{score};
 ghost use Rattle.words.specs.Given.{Row, Part, OfColumns, Gains, gained, withColumn, added, bothOrders, othersByPlace};
-ghost use Rattle.words.specs.Answers.{pairList, rowList, rowsByRun, rowSumsBeside, wordList, diagonalList};
+ghost use Rattle.words.specs.Answers.{pairList, rowList, rowsByRun, rowSumsBeside, wordList, wordsBeside, diagonalList};
 
 // The score of a column: its level less one where two entries agree, and -1 where they differ.
 pub fn score(level: u8, a: u8, b: u8) -> i64
@@ -171,6 +172,23 @@ pub fn words_of_plan(levels: &[u8], table: &[u8]) -> [i64; 24]
     let own = diagonal(levels);
     both_orders(&mut total, &own, n);
     total
+}
+
+// The words of all runs of a plan, behind its refusal.
+pub fn words_answer(refused: Refusal, levels: &[u8], table: &[u8]) -> WordsAnswer
+    requires { ⌜ (refused .number ≡ 0 → Good (plan (now levels) (now table))) ⌝ }
+    ensures { λ r. ⌜ (let p = plan (now (levels .entry)) (now (table .entry)) in r ≡ wordsBeside p (everyRun p) refused) ⌝ }
+{
+    if refused.number != 0 {
+        return WordsAnswer {
+            refused,
+            words: [0; 24],
+        };
+    }
+    WordsAnswer {
+        refused,
+        words: words_of_plan(levels, table),
+    }
 }
 
 // The answer for some runs of a plan, behind the refusal that the call begins with.

@@ -38,15 +38,7 @@ pub struct DiagonalAnswer {
 pub fn words(levels: &[u8], table: &[u8]) -> WordsAnswer
     ensures { λ r. ⌜ (let p = plan (now (levels .entry)) (now (table .entry)) in r ≡ wordsAnswer p (everyRun p) (ofPlan p)) ⌝ }
 {
-    let refused = plan::check(levels, table);
-    if refused.number != 0 {
-        return WordsAnswer {
-            refused,
-            words: [0; 24],
-        };
-    }
-    let words = inner::words_of_plan(levels, table);
-    WordsAnswer { refused, words }
+    inner::words_answer(plan::check(levels, table), levels, table)
 }
 
 // The scaled word of one length.

@@ -18,8 +18,7 @@ use Rattle.text.specs.Reader.{roomChecks, planRefusal, readRefusal, answered, r
 use Rattle.text.specs.Text.{split, numbers, count, ended, firstMalformed, width, malformedLine, planOf, join, writeLine, writeLines}
 use Rattle.text.proofs.Split.{All, split-there, join-split}
 use Rattle.text.proofs.Digits.{decimal-length}
-use Rattle.text.proofs.Lines.{Row, Formed, whole, line-numbers, ended-whole, whole-formed, none-malformed}
-use Rattle.text.proofs.Lines.{split-lines, lines-formed, lines-rows, lines-back}
+use Rattle.text.proofs.Lines.{Row, Formed, whole, line-numbers, ended-whole, whole-formed, none-malformed, split-lines, lines-formed, lines-rows, lines-back}
 use Rattle.text.proofs.Answers.{room-enough, formed-text}
 use Rattle.writer.specs.Writer.{row, textOf, writeText, planOfRuns, mostOfText, Runs}
 use Rattle.writer.proofs.Rows.{flat, each-flat, rows-flat, every-run, runs-rows}

@@ -13,8 +13,8 @@ use Rattle.rules.specs.Plan.{Plan, plan, columns, level, entry}
 use Rattle.sets.specs.Sets.{binom, setAt}
 use Rattle.sets.proofs.Places.{set-front, set-held, set-at-set}
 use Rattle.words.specs.Words.{wordOf}
-use Rattle.counts.specs.Parts.{counted}
-use Rattle.counts.proofs.Squared.{counted-none}
+use Rattle.parts.specs.Parts.{counted}
+use Rattle.parts.proofs.Squared.{counted-none}
 use Rattle.frequencies.proofs.Walks.{few-sets}
 use Rattle.bench.proofs.Added.{place-projection, place-few, added-next, added-small, added-all}
 use Rattle.bench.proofs.words_added.Statement.{statement}

@@ -1,21 +1,25 @@
 -- `inner::side_of` meets its contract: the refusal and the number of runs are those of the checks, and the words stand beside the refusal.
 use mathlib.Core.Path.{refl}
+use Rattle.rules.specs.Plan.{Plan, plan}
 use Rattle.plan.specs.Given.{checkedOf}
-use Rattle.words.specs.Answers.{wordsAnswer}
+use Rattle.plan.proofs.CheckedRuns.{checked-good}
 use Rattle.compare.specs.Given.{wholeSide}
 use borrow.Author.Needs.{needs}
 use Rattle.compare.proofs.inner.side_of.Statement.{statement}
 use Rattle.compare.proofs.inner.side_of.Tie as tie
 
+abbrev given : tie.After-checked-runs → Plan
+given k = let a = k .before .before .before .args in plan (a .levels .now) (a .table .now)
+
 checked-runs-requires : tie.Need-checked-runs-requires
 checked-runs-requires c κs = search needs
 
-words-requires : tie.Need-words-requires
-words-requires c κs = search needs
+words-answer-requires : tie.Need-words-answer-requires
+words-answer-requires c κs z = let k = c .before in checked-good (given k) (k .checked-runs .ensures) z
 
 returns : tie.Need-returns
-unfolding checkedOf wordsAnswer wholeSide
-returns c = let w = c .before .before in rw (w .before .checked-runs .ensures, w .words .ensures) refl
+unfolding checkedOf wholeSide
+returns c = let w = c .before in rw (w .words-answer .ensures, w .before .before .checked-runs .ensures) refl
 
 pub side-of-spec : {M : Type 1} → statement M
-side-of-spec = tie.close (tie.spec checked-runs-requires words-requires returns)
+side-of-spec = tie.close (tie.spec checked-runs-requires words-answer-requires returns)

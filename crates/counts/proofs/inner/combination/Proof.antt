@@ -9,8 +9,7 @@ use lib.Seq.{take-all}
 use Rattle.exact.proofs.Numbers.{mul-below}
 use Rattle.exact.proofs.Members.{getD-mem}
 use Rattle.rules.specs.Plan.{plan, level, entry}
-use Rattle.counts.specs.Numbered.{numberOf}
-use Rattle.counts.specs.Parts.{mostNumbers}
+use Rattle.counts.specs.Numbered.{numberOf, mostNumbers}
 use Rattle.counts.proofs.Turns.{number-next, number-small}
 use Rattle.counts.proofs.inner.combination.Statement.{statement}
 use Rattle.counts.proofs.inner.combination.Tie as tie

@@ -8,14 +8,13 @@ use Rattle.exact.specs.Fractions.{ShortDenominator}
 use Rattle.exact.specs.declared.fractions.Fraction.{Fraction}
 use Rattle.rules.specs.Plan.{Plan, plan, columns}
 use Rattle.sets.specs.Sets.{binom, setAt}
-use Rattle.counts.specs.Parts.{counted}
-use Rattle.counts.proofs.Squared.{counted-none}
+use Rattle.parts.specs.Parts.{counted}
+use Rattle.parts.proofs.Squared.{counted-none}
 use Rattle.projections.specs.Projections.{valueIn}
 use Rattle.frequencies.specs.Frequencies.{Rooms, rooms}
 use Rattle.frequencies.proofs.Walks.{Walked, walked-none, walked-same, walked-fillable, walked-next}
 use Rattle.frequencies.proofs.Walks.{few-sets, set-projection, set-some, set-short, whole-table}
-use Rattle.sets.proofs.Places.{set-front, set-held}
-use Rattle.sets.proofs.Places.{set-at-set}
+use Rattle.sets.proofs.Places.{set-front, set-held, set-at-set}
 use Rattle.frequencies.proofs.inner.tabulate.Statement.{statement}
 use Rattle.frequencies.proofs.inner.tabulate.Tie as tie
 

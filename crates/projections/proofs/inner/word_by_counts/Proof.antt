@@ -1,6 +1,6 @@
 -- `projections::inner::word_by_counts` meets its contract: the counters that it makes are all zero.
 use Rattle.rules.specs.Plan.{plan}
-use Rattle.counts.proofs.Squared.{counted-none}
+use Rattle.parts.proofs.Squared.{counted-none}
 use Rattle.projections.proofs.SetWords.{counted-columns}
 use borrow.Author.Needs.{needs}
 use Rattle.projections.proofs.inner.word_by_counts.Statement.{statement}

@@ -2,7 +2,7 @@
 use mathlib.Core.Path.{_∙_}
 use Rattle.rules.specs.Plan.{Plan, plan}
 use Rattle.plan.proofs.CheckedRuns.{checked-fits, checked-long, checked-good, checked-every}
-use Rattle.resolution.proofs.WholePlan.{words-measured, rating-whole}
+use Rattle.resolution.proofs.WholePlan.{words-handed, words-measured, rating-whole}
 use borrow.Author.Needs.{needs}
 use Rattle.resolution.proofs.inner.rate_plan.Statement.{statement}
 use Rattle.resolution.proofs.inner.rate_plan.Tie as tie
@@ -13,8 +13,8 @@ given k = let a = k .before .before .before .args in plan (a .levels .now) (a .t
 checked-runs-requires : tie.Need-checked-runs-requires
 checked-runs-requires c κs = search needs
 
-words-requires : tie.Need-words-requires
-words-requires c κs = search needs
+words-answer-requires : tie.Need-words-answer-requires
+words-answer-requires c κs z = let k = c .before in checked-good (given k) (k .checked-runs .ensures) z
 
 array-share-prefix-runs : tie.Need-array-share-prefix-runs
 array-share-prefix-runs c = let k = c .before .before .before in checked-fits (given k) (k .checked-runs .ensures)
@@ -28,7 +28,7 @@ rate-answer-requires c κs z =
     let k = w .before .before in
     let p = given k in
     let e = k .checked-runs .ensures in
-    rw (checked-every p e z) (words-measured p (w .words .ensures) (checked-good p e z))
+    rw (checked-every p e z) (words-measured p (words-handed p e (w .words-answer .ensures)) (checked-good p e z))
 
 returns : tie.Need-returns
 returns c =
@@ -40,7 +40,7 @@ rate-plan-spec =
     tie.close
     (tie.spec
     checked-runs-requires
-    words-requires
+    words-answer-requires
     array-share-prefix-runs
     slice-aggregate-rate-answer
     rate-answer-requires

@@ -12,8 +12,8 @@ use Rattle.exact.specs.Fractions.{ShortDenominator}
 use Rattle.rules.specs.Plan.{Plan, plan, level, entry}
 use Rattle.sets.specs.Sets.{binom}
 use Rattle.exact.specs.declared.fractions.Fraction.{Fraction}
-use Rattle.counts.specs.Parts.{counted, OnlyWord}
-use Rattle.counts.proofs.Squared.{counted-none}
+use Rattle.parts.specs.Parts.{counted, OnlyWord}
+use Rattle.parts.proofs.Squared.{counted-none}
 use Rattle.projections.specs.Given.{Projection}
 use Rattle.projections.specs.Projections.{relativeOf}
 use Rattle.sets.proofs.Among.{chosen, there, enough, chosen-front}

@@ -10,11 +10,6 @@ use Rattle.rules.proofs.Refusal.number_or.Tie as tie
 of-u64-requires : tie.Need-of-u64-requires
 of-u64-requires c κs = search needs
 
-sub-requires : tie.Need-sub-requires
-sub-requires c κs =
-    let s = c .before .before in
-    rw (of (c .of-u64 .result) (c .of-u64 .ok), c .of-u64 .ensures) (less-small (s .args .self .number) (s .pre))
-
 returns : tie.Need-returns
 returns c =
     let u = c .before .of-u64 in
@@ -22,6 +17,11 @@ returns c =
     let n = a .self .number in
     of (c .sub .result) (c .sub .ok) ∙ c .sub .ensures ∙ ap (λ z. pos 0 -ℤ z) (of (u .result) (u .ok) ∙ u .ensures) ∙ less n
     ∙ sym (unless-refused (a .self) (negℤ (pos n)) (a .value) (c .before .before .if1 .taken))
+
+sub-requires : tie.Need-sub-requires
+sub-requires c κs =
+    let s = c .before .before in
+    rw (of (c .of-u64 .result) (c .of-u64 .ok), c .of-u64 .ensures) (less-small (s .args .self .number) (s .pre))
 
 returns-2 : tie.Need-returns-2
 returns-2 c =

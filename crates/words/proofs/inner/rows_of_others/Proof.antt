@@ -13,8 +13,7 @@ use Rattle.words.specs.Given.{Part, added, othersList}
 use Rattle.words.specs.Answers.{byLength}
 use Rattle.words.proofs.Totals.{totals, totals-none, totals-next, totals-row}
 use Rattle.words.proofs.OfPlan.{ofPair, row-totals, sound-run, sound-take, pair-small, pair-added, pair-part}
-use Rattle.words.proofs.RowsByPair.{others-first, others-next, others-row}
-use Rattle.words.proofs.RowsByPair.{past, paired, paired-all, paired-next, pairing, pairing-reads, pairing-next}
+use Rattle.words.proofs.RowsByPair.{others-first, others-next, others-row, past, paired, paired-all, paired-next, pairing, pairing-reads, pairing-next}
 use Rattle.words.proofs.inner.rows_of_others.Statement.{statement}
 use Rattle.words.proofs.inner.rows_of_others.Tie as tie
 
