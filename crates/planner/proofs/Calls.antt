@@ -19,6 +19,7 @@ use Rattle.rules.specs.Refusals.{Check, refusal, refuses, accepted, orElse, num
 use Rattle.rules.proofs.Ranges.{unless-refused, unless-accepted, or-assoc}
 use Rattle.rules.proofs.Order.{each-cons, known, refusal-first, passed-none, none-passed, number-most, never-twelve}
 use Rattle.sets.specs.Sets.{placeAnswer, setAnswer}
+use Rattle.survey.specs.Survey.{occursAnswer, alikeAnswer}
 use Rattle.words.specs.Answers.{wordsAnswer, wordAnswer, rowSumsAnswer, diagonalAnswer}
 use Rattle.counts.specs.Counts.{strengthAnswer}
 use Rattle.projections.specs.Projections.{setWordAnswer}
@@ -67,6 +68,8 @@ use Rattle.planner.specs.Calls.{
   diagonal,
   opened,
   written,
+  level-occurs,
+  first-alike,
   struck-or-reinstated,
   held-written,
   read,
@@ -133,6 +136,8 @@ call-known (plan-checked p) = one _ tt
 call-known (diagonal p) = one _ tt
 call-known (opened p) = one _ tt
 call-known (written p bytes) = one _ tt
+call-known (level-occurs p i e) = one _ tt
+call-known (first-alike p f) = one _ tt
 call-known (struck-or-reinstated h c) = one _ (call-checks-known (marksIn h) c)
 call-known (held-written h a b) = one _ (begins-known (of-held h) (roomsOf h a b) tt)
 call-known (read text room other) = one _ tt
@@ -168,7 +173,8 @@ sides-in-turn r s verdict e = go (refuses r) (refuses s)
     go false false h = e ∙ h refl
 
 module _ (last : List Check) where
-  first-in-turn : (checks : List Check) (lists : List (List Check)) → inTurn (checks ∷ lists ++ last ∷ []) ≡ orElse (refusal checks) (inTurn (lists ++ last ∷ []))
+  first-in-turn : (checks : List Check) (lists : List (List Check)) →
+      inTurn (checks ∷ lists ++ last ∷ []) ≡ orElse (refusal checks) (inTurn (lists ++ last ∷ []))
   first-in-turn checks [] = refl
   first-in-turn checks (more ∷ lists) = refl
 
@@ -190,7 +196,7 @@ module _ (last : List Check) where
 pub call-refusal : (c : Call) → refusedBy c ≡ inTurn (checksOf c)
 unfolding wordsAnswer rowSumsAnswer strengthAnswer resolutionAnswer generalizedAnswer chartAnswer adviceAnswer wordAnswer figureAnswer turnsAnswer
     setWordAnswer tableAnswer compareAnswer diagonalAnswer openAnswer writeAnswer callAnswer heldText textRefusal readRefusal listingAnswer
-    rewriteAnswer rewriteRefusal leftOf placeAnswer setAnswer
+    rewriteAnswer rewriteRefusal leftOf placeAnswer setAnswer occursAnswer alikeAnswer
 call-refusal (asked s words) = refl
 call-refusal (asked s row-sums) = refl
 call-refusal (asked s strength) = refl
@@ -215,6 +221,8 @@ call-refusal (plan-checked p) = refl
 call-refusal (diagonal p) = refl
 call-refusal (opened p) = refl
 call-refusal (written p bytes) = refl
+call-refusal (level-occurs p i e) = refl
+call-refusal (first-alike p f) = refl
 call-refusal (struck-or-reinstated h c) = refl
 call-refusal (held-written h a b) = refl
 call-refusal (read text room other) = refl

@@ -5,9 +5,10 @@ use mathlib.Core.List.{List, [], _∷_, _++_}
 use Prim.Native.Nat.{ℕ}
 use lib.ListN.{length}
 use Rattle.rules.specs.declared.Refusal.{Refusal}
-use Rattle.rules.specs.Plan.{Plan, columns, everyRun, mostColumns}
-use Rattle.rules.specs.Refusals.{Check, refusal, accepted, orElse, levelChecks, planChecks, ofPlan, badLength, badRoom, tooLong, malformed}
+use Rattle.rules.specs.Plan.{Plan, columns, runs, level, everyRun, mostColumns}
+use Rattle.rules.specs.Refusals.{Check, refusal, accepted, orElse, levelChecks, planChecks, ofPlan, badPlace, badLength, badRoom, tooLong, malformed}
 use Rattle.sets.specs.Sets.{placeChecks, placeAnswer, setChecks, setAnswer}
+use Rattle.survey.specs.Survey.{occursAnswer, alikeAnswer}
 use Rattle.words.specs.Answers.{wordsAnswer, wordAnswer, rowSumsAnswer, diagonalAnswer}
 use Rattle.counts.specs.Counts.{strengthAnswer}
 use Rattle.projections.specs.Projections.{setWordChecks, setWordAnswer}
@@ -91,6 +92,9 @@ pub data Call : Type 0 where
   -- of levels, and of a plan
   levels-checked plan-checked diagonal opened : Plan → Call
   written : Plan → ℕ → Call
+  -- whether a level occurs, and the first run alike
+  level-occurs : Plan → ℕ → ℕ → Call
+  first-alike : Plan → ℕ → Call
   -- of a held plan
   struck-or-reinstated : Held → held.Call → Call
   held-written : Held → ℕ → ℕ → Call
@@ -128,6 +132,8 @@ checksOf (plan-checked p) = planChecks p ∷ []
 checksOf (diagonal p) = levelChecks p ∷ []
 checksOf (opened p) = planChecks p ∷ []
 checksOf (written p bytes) = ofPlan p (badTextRoom p (everyRun p) bytes ∷ []) ∷ []
+checksOf (level-occurs p i e) = ofPlan p (badPlace (columns p) i ∷ badPlace (level p i) e ∷ []) ∷ []
+checksOf (first-alike p f) = ofPlan p (badPlace (runs p) f ∷ []) ∷ []
 checksOf (struck-or-reinstated h c) = callChecks (marksIn h) c ∷ []
 checksOf (held-written h a b) = textChecks h a b ∷ []
 checksOf (read text room other) = readChecks text (length room) (length other) ∷ []
@@ -153,6 +159,8 @@ refusedBy (plan-checked p) = refusal (planChecks p)
 refusedBy (diagonal p) = diagonalAnswer p .refused
 refusedBy (opened p) = openAnswer p .refused
 refusedBy (written p bytes) = writeAnswer p (everyRun p) (ofPlan p) bytes .refused
+refusedBy (level-occurs p i e) = occursAnswer p (everyRun p) (ofPlan p) i e .refused
+refusedBy (first-alike p f) = alikeAnswer p (everyRun p) (ofPlan p) f .refused
 refusedBy (struck-or-reinstated h c) = callAnswer h c .refused
 refusedBy (held-written h a b) = heldText h a b .answer .refused
 refusedBy (read text room other) = readAnswer text room other .refused

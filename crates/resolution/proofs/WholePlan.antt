@@ -2,18 +2,16 @@
 use mathlib.Core.Path.{_≡_, refl, sym, _∙_, ap}
 use mathlib.Core.List.{List}
 use Prim.Native.Nat.{ℕ}
-use native.Mathlib.Decide.{ℕ-discrete}
 use lib.Dec.{T}
 use lib.ListN.{take}
 use Rattle.rules.specs.Plan.{Plan, everyRun}
 use Rattle.rules.specs.Refusals.{Check, refusal, orElse, planChecks, ofPlan}
 use Rattle.rules.specs.declared.Refusal.{Refusal}
 use Rattle.rules.proofs.Order.{inTurn}
-use Rattle.rules.proofs.Ranges.{or-refused, or-accepted}
 use Rattle.plan.specs.declared.inner.Checked.{Checked}
 use Rattle.plan.specs.Given.{checkedOf}
 use Rattle.plan.specs.Good.{Good}
-use Rattle.plan.proofs.Checks.{passed-good, good-passed, plan-refused, plan-passed}
+use Rattle.plan.proofs.Checks.{passed-good, good-passed, plan-handed}
 use Rattle.plan.proofs.CheckedRuns.{checked-refusal, handed-refusal, handed-value}
 use Rattle.words.specs.declared.WordsAnswer.{WordsAnswer}
 use Rattle.words.specs.Answers.{wordsBeside, wordsAnswer}
@@ -29,11 +27,7 @@ module _ (p : Plan) where
   -- a call on a plan begins with the plan's refusal
   pub plan-begins : (checks : List Check) → T (inTurn (planChecks p) checks) → {r : Refusal} → r ≡ refusal (planChecks p) →
       refusal (ofPlan p checks) ≡ orElse r (refusal checks)
-  plan-begins checks turn {r} e = go (ℕ-discrete (r .number) 0)
-    where
-      go : Dec (r .number ≡ 0) → refusal (ofPlan p checks) ≡ orElse r (refusal checks)
-      go (yes z) = plan-passed p checks turn e z ∙ sym (or-accepted r (refusal checks) z)
-      go (no n) = plan-refused p checks turn e n ∙ sym (or-refused r (refusal checks) n)
+  plan-begins checks turn e = sym (plan-handed p checks turn e)
 
   -- its words, behind that refusal
   pub words-handed : {k : Checked} → k ≡ checkedOf p → {x : WordsAnswer} → x ≡ wordsBeside p (everyRun p) (k .refused) →
