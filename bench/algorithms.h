@@ -4,6 +4,7 @@
 #ifndef ALGORITHMS_H
 #define ALGORITHMS_H
 
+#include <stddef.h>
 #include <stdint.h>
 
 typedef uint8_t byte;
@@ -83,5 +84,8 @@ long resolution_in_c(Plan plan, const long *words);
 long ratio_in_c(Plan plan, long n);
 long ratio_before_in_c(Plan plan, long n);
 long listing_in_c(const byte *text, long length, byte *room);
+
+/* tell.c: as crumb_tell with all runs standing, with a room for 144000 bytes */
+long tell_in_c(Plan plan, long n, long column, const size_t *others, long count, byte *room);
 
 #endif

@@ -171,6 +171,18 @@ static void time_listing(long runs, long columns)
     print_timed("listing", listing_of_library, listing_of_c);
 }
 
+/* ---- tell */
+
+static void time_tell(void)
+{
+    make_one_cell();
+    print_timed("tell, one cell", tell_of_library, tell_of_c);
+    make_no_pair();
+    print_timed("tell, no pair", tell_of_library, tell_of_c);
+    make_soon_joined();
+    print_timed("tell, soon joined", tell_of_library, tell_of_c);
+}
+
 /* ---- growth */
 
 /* Each line, and how many times the line before it took. */
@@ -204,6 +216,7 @@ static void time_tables(void)
     time_ratio(256, 24);
     time_listing(64, 12);
     time_listing(256, 24);
+    time_tell();
 }
 
 /* The largest plan; how many times faster the words of its sets of four columns are by counts. */
@@ -268,6 +281,16 @@ static void compare_ratios(long resolution, long runs, long columns)
     compare("listing", listing_of_library, listing_of_c);
 }
 
+static void compare_tell(void)
+{
+    make_one_cell();
+    compare("tell, one cell", tell_of_library, tell_of_c);
+    make_no_pair();
+    compare("tell, no pair", tell_of_library, tell_of_c);
+    make_soon_joined();
+    compare("tell, soon joined", tell_of_library, tell_of_c);
+}
+
 /* On the plans that are timed; what is slow by pairs on those of 64 runs. */
 static void compare_all(void)
 {
@@ -282,6 +305,7 @@ static void compare_all(void)
         compare("largest ratio, C before", ratio_of_library, ratio_before_of_c);
         compare_ratios(resolution, 256, 24);
     }
+    compare_tell();
 }
 
 int main(int count, char **arguments)

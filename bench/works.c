@@ -216,3 +216,54 @@ long listing_of_c(void)
 {
     return sum_of_listing(listing_in_c(text, text_bytes, room));
 }
+
+/* ---- tell */
+
+static byte told[144000];
+static size_t others[MOST_COLUMNS];
+
+/* 256 runs of 24 columns: column 0 has 16 levels, of which run f has f modulo `occurring`; two of the other columns' entries differ. */
+static void make_for_tell(long occurring, int one_cell)
+{
+    n = MOST_RUNS;
+    m = MOST_COLUMNS;
+    for (long i = 0; i < m; i++) {
+        levels[i] = i == 0 ? 16 : 2;
+        others[i] = (size_t)i + 1;
+    }
+    for (long e = 0; e < n * m; e++)
+        table[e] = (byte)(e % m == 0 ? e / m % occurring : one_cell ? 0 : (e / m) >> (e % m - 1) % 8 & 1);
+}
+
+void make_one_cell(void)
+{
+    make_for_tell(15, 1);
+}
+
+void make_no_pair(void)
+{
+    make_for_tell(16, 0);
+}
+
+void make_soon_joined(void)
+{
+    make_for_tell(16, 1);
+}
+
+static long sum_of_told(long bytes)
+{
+    long sum = bytes;
+    for (long k = 0; k < bytes; k++)
+        sum = mixed(sum, told[k]);
+    return sum;
+}
+
+long tell_of_library(void)
+{
+    return sum_of_told(crumb_tell(levels, (size_t)m, table, (size_t)(n * m), 0, 0, 0, others, (size_t)m - 1, told, sizeof told));
+}
+
+long tell_of_c(void)
+{
+    return sum_of_told(tell_in_c(plan(), n, 0, others, m - 1, told));
+}

@@ -26,4 +26,8 @@ long set_words_by_counts(void), set_words_by_pairs(void); /* both of the library
 long ratio_of_library(void), ratio_of_c(void), ratio_before_of_c(void);
 long listing_of_library(void), listing_of_c(void);
 
+/* For `tell`, column 0 against all others: all runs in one cell with 15 of 16 levels; no two runs in one cell; all levels joined by the first runs. */
+void make_one_cell(void), make_no_pair(void), make_soon_joined(void);
+long tell_of_library(void), tell_of_c(void);
+
 #endif

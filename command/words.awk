@@ -1,5 +1,5 @@
 # Puts into words what a program said on standard error. Reads the header, for its table of refusals, and then what was said; `ended`
-# is the program's own status. Exits with the status of crumb: 0 answered, 1 refused, 3 not read or not written.
+# is the program's own status, `verb` what was asked. Exits with the status of crumb: 0 answered, 1 refused, 3 not read or not written.
 #
 # What a program says: `refused NUMBER PLACE PLACE`; for refusal 14 the bytes of the first line and of the line named, as decimal
 # numbers behind `levels` and `line`; `lost RUN LINE`; `runs RUN..`; `not read: WHY` and `not written: WHY`.
@@ -26,6 +26,7 @@ END {
     if (refused) {
         tell("refused " refused ": " place() (refused == 14 ? fault() : wrong[refused]))
         tell(advice[refused])
+        if (refused == 8 && verb == "tell") tell("Columns are numbers, or names behind --names; those of J rise, and A is not one of them.")
         exit 1
     }
     if (ended > 128 && !failed) { failed = 1; tell("not written: the program was ended by signal " ended - 128) }

@@ -19,8 +19,8 @@
 #include <stddef.h>
 #include <stdint.h>
 
-#define CRUMB_VERSION "0.8.0"
-#define CRUMB_VERSION_NUMBER 800 /* 10000 * major + 100 * minor + patch */
+#define CRUMB_VERSION "0.9.0"
+#define CRUMB_VERSION_NUMBER 900 /* 10000 * major + 100 * minor + patch */
 
 /* The refusals: number, name, what is wrong, what to do. A call that is
  * refused answers the number negated. Number 12 is not used. The checks stand
@@ -148,6 +148,51 @@ int64_t crumb_rewrite(const uint8_t *text, size_t length,
                       const size_t *lost, size_t losses,
                       uint8_t *room, size_t bytes,
                       size_t *numbers, size_t places);
+
+/* Whether the runs that stand can tell an effect of `column` from the columns
+ * `others` acting together: whether no effect of these could stand in for one
+ * of it. `standing` has a byte for each run, 0 where it is struck; no bytes
+ * (`runs` 0) where all runs stand. `others` rise, are without `column`, and
+ * may be none.
+ *
+ * The answer is lines, each ended by byte 10; runs, columns and levels by
+ * number:
+ *
+ *     tell 0 1 2        the column, then the others
+ *     answer yes        or no
+ *     words 8 25        see below
+ *     absent 2          a level of the column that no run has
+ *     group 0 1 2       levels that the runs can compare, rising
+ *     pair 0 4 0 1      runs 0 and 4 agree in the others and have the levels
+ *                       0 and 1: what joins a group
+ *     cell 0 1 1        only where the answer is no: a combination of levels of
+ *                       the others that occurs, behind the lowest level of the
+ *                       group that its runs have
+ *
+ * Yes is shown by the pairs, no by the cells: one group against the others is
+ * an effect that the cells repeat in every run. `words` is (s - 1) times the
+ * sum of W({column} and K) over all parts K of the others, over the square of
+ * the number of runs, reduced; below 1 the published words alone say yes. Yes
+ * says nothing of precision: it may rest on two runs.
+ *
+ * The lines go to the front of `room`, without a byte 0 behind them, and the
+ * answer is the number of their bytes, 144,000 at most. The room's other bytes
+ * stay as they were. A negative answer is a refusal number, negated; the first
+ * that applies, in this order, is given, and nothing is written:
+ *   -1 to -5  the plan is refused, as above
+ *   -8  the marks are not as many as the runs
+ *   -10 no run stands
+ *   -8  a column is out of range, `others` do not rise, or `column` is one of
+ *       them
+ *   -7  the room is smaller than the lines
+ *
+ * Stack: less than 192 KB.
+ */
+int64_t crumb_tell(const uint8_t *levels, size_t columns,
+                   const uint8_t *table, size_t entries,
+                   const uint8_t *standing, size_t runs,
+                   uint64_t column, const size_t *others, size_t count,
+                   uint8_t *room, size_t bytes);
 
 #ifdef __cplusplus
 }

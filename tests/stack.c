@@ -14,7 +14,8 @@ static uint8_t room[ROOM] __attribute__((aligned(16)));
 static const uint8_t paint = 0xA5;
 static uint8_t text[2 * (RUNS + 1) * COLUMNS], written[18504];
 static const size_t lost[2] = { 5, 10 };
-static size_t numbers[RUNS];
+static size_t numbers[RUNS], others[COLUMNS - 1];
+static uint8_t told[144000];
 static int64_t answer;
 
 /* Column i is the parity of the bits that the run's number and i + 1 share. */
@@ -54,6 +55,11 @@ static void ask_rewrite(void)
     answer = crumb_rewrite(text, sizeof text, lost, 2, written, sizeof written, numbers, RUNS);
 }
 
+static void ask_tell(void)
+{
+    answer = crumb_tell(levels, COLUMNS, table, sizeof table, 0, 0, 0, others, COLUMNS - 1, told, sizeof told);
+}
+
 /* Calls `work` with the end of the room as its stack. */
 static void on_painted_stack(void (*work)(void))
 {
@@ -80,6 +86,7 @@ static const struct { const char *name; void (*work)(void); long limit; } calls[
     { "crumb_listing", ask_listing, 196608 },
     { "crumb_write", ask_write, 32768 },
     { "crumb_rewrite", ask_rewrite, 65536 },
+    { "crumb_tell", ask_tell, 196608 },
 };
 
 int main(void)
@@ -87,6 +94,8 @@ int main(void)
     int over = 0;
     make_plan();
     write_text();
+    for (int i = 0; i < COLUMNS - 1; i++)
+        others[i] = (size_t)i + 1;
     for (unsigned k = 0; k < sizeof calls / sizeof *calls; k++) {
         on_painted_stack(calls[k].work);
         printf("%s, %d runs and %d columns: %ld, %ld bytes of stack\n", calls[k].name, RUNS, COLUMNS, (long)answer, used());

@@ -1,10 +1,5 @@
 -- What the checks of an answer tell where they pass, and that every run of an accepted plan stands.
-use mathlib.Core.Path.{_≡_, refl}
-use mathlib.Core.List.{List, List·Memᴰ·head, List·Memᴰ·tail}
-use Prim.Native.Nat.{ℕ, zero, suc, _+_, _≤_, _<_}
-use native.Mathlib.Omega.{arith}
-use borrow.Author.Tests.{ltb-false}
-use lib.ListN.{length}
+use Rattle.exact.proofs.Ground.{List, List·Memᴰ·head, List·Memᴰ·tail, _≡_, refl, ℕ, _≤_, _<_, _+_, suc, zero, arith, length, ltb-false}
 use Rattle.exact.specs.Lists.{from}
 use Rattle.exact.proofs.Numbers.{mem-from}
 use Rattle.rules.specs.declared.Refusal.{Refusal}

@@ -1,15 +1,8 @@
 -- To lose f rather than g is better exactly where the row sums of f are larger, at the first length at which they differ.
-use mathlib.Core.Path.{_≡_, refl, sym, _∙_, ap, ap₂, subst}
-use mathlib.Core.Bool.{Bool, true, false, not, cond}
-use mathlib.Core.Logic.{⊎-elim}
-use mathlib.Core.List.{List, [], _∷_, map, List·Memᴰ}
-use Prim.Native.Nat.{ℕ, zero, suc, _+_, _*_, _≤_, _<_}
-use native.Mathlib.Nat.{mul-pos, mul-lt-mul-of-pos-right}
-use native.Mathlib.Omega.{arith}
-use lib.Dec.{T, eqb}
-use lib.IntN.{ℤ, pos, natAbs, _+ℤ_, _-ℤ_, _*ℤ_, +ℤ-idr}
-use lib.ListN.{length}
-use lib.Signed.{ltZ, _≤ℤ_, _<ℤ_, ltZ-yes, ltZ-no, <ℤ-irrefl, clashℤ}
+use Rattle.exact.proofs.Ground.{true, false, Bool, cond, not, List, [], _∷_, map, List·Memᴰ, ⊎-elim, _≡_, _∙_, sym, ap, refl, ap₂, subst, ℕ, _≤_, _<_}
+use Rattle.exact.proofs.Ground.{_+_, _*_, suc, zero, mul-pos, arith, eqb, T, pos, ℤ, natAbs, _*ℤ_, _+ℤ_, _-ℤ_, +ℤ-idr, length, _≤ℤ_, ltZ}
+use native.Mathlib.Nat.{mul-lt-mul-of-pos-right}
+use lib.Signed.{_<ℤ_, ltZ-yes, ltZ-no, <ℤ-irrefl, clashℤ}
 use Rattle.exact.specs.Lists.{from}
 use Rattle.exact.specs.Fractions.{then, smaller, smallerFraction}
 use Rattle.exact.specs.declared.fractions.Fraction.{Fraction}

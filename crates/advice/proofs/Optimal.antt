@@ -1,9 +1,5 @@
 -- Demand 3: no other single loss leaves a better plan than the loss of the run advised, which has the lowest number among equals.
-use mathlib.Core.Path.{_≡_, refl}
-use mathlib.Core.List.{List, List·Memᴰ}
-use Prim.Native.Nat.{ℕ, _≤_, _<_}
-use native.Mathlib.Omega.{arith}
-use lib.ListN.{length}
+use Rattle.exact.proofs.Ground.{List, List·Memᴰ, _≡_, refl, ℕ, _≤_, _<_, arith, length}
 use Rattle.exact.specs.Lawful.{Lawful}
 use Rattle.exact.specs.declared.fractions.Verdict.the-variants.{Better}
 use Rattle.exact.proofs.Numbers.{length-from}

@@ -1,8 +1,5 @@
 -- The row sums that the words' routine gives: each run's stand at its place in the list, and decide as the losses do.
-use mathlib.Core.Path.{_≡_, sym, _∙_, ap, ap₂}
-use mathlib.Core.List.{List}
-use Prim.Native.Nat.{ℕ, _≤_, _<_}
-use lib.ListN.{length, getD, take, length-map}
+use Rattle.exact.proofs.Ground.{List, _≡_, _∙_, sym, ap, ap₂, ℕ, _≤_, _<_, length, getD, take, length-map}
 use Rattle.exact.specs.Lists.{from}
 use Rattle.exact.proofs.Members.{getD-mem}
 use Rattle.rules.specs.Plan.{Plan, columns, mostColumns}

@@ -1,13 +1,6 @@
 -- The advice taken in turn: what has been lost, and what is left.
-use mathlib.Core.Path.{_≡_, refl, sym, _∙_, ap, ap₂, subst}
-use mathlib.Core.Bool.{not}
-use mathlib.Core.List.{List, [], _∷_, _++_}
-use Prim.Native.Nat.{ℕ, zero, suc, _+_, _-_, _≤_, _<_}
-use native.Mathlib.Numerals.{add-one}
-use native.Mathlib.Omega.{arith}
-use lib.Dec.{eqb}
-use lib.ListN.{length, take, set, replicate, length-append}
-use lib.Seq.{take-at}
+use Rattle.exact.proofs.Ground.{not, List, [], _∷_, _++_, _≡_, _∙_, sym, ap, refl, ap₂, subst, ℕ, _≤_, _<_, _-_, _+_, suc, zero, add-one, arith, eqb}
+use Rattle.exact.proofs.Ground.{length, take, replicate, set, length-append, take-at}
 use Rattle.exact.specs.Lists.{filledTo, into}
 use Rattle.exact.proofs.Rooms.{into-blank}
 use Rattle.best.proofs.Best.{best-mem}

@@ -1,14 +1,7 @@
 -- The turns of the loops: two rows compared length by length, and runs kept one after the other.
-use mathlib.Core.Path.{_≡_, refl, sym, _∙_, ap, ap₂}
-use mathlib.Core.Bool.{not}
-use mathlib.Core.List.{List, [], _∷_, _++_, append-nil}
-use Prim.Native.Nat.{ℕ, _+_, _≤_, _<_}
-use native.Mathlib.Omega.{arith}
-use native.Mathlib.Numerals.{add-one}
-use lib.Dec.{eqb, eqb→eq, eqb-refl}
-use lib.IntN.{ℤ, pos}
-use lib.ListN.{length, getD, take, drop, set, replicate, length-append}
-use lib.Seq.{getD-take, length-take-le, take-suc, drop-cons, drop-length}
+use Rattle.exact.proofs.Ground.{not, List, [], _∷_, _++_, append-nil, _≡_, _∙_, sym, ap, refl, ap₂, ℕ, _≤_, _<_, _+_, add-one, arith, eqb, eqb→eq}
+use Rattle.exact.proofs.Ground.{eqb-refl, pos, ℤ, length, getD, take, drop, replicate, set, length-append, length-take-le, take-suc, drop-cons}
+use Rattle.exact.proofs.Ground.{drop-length, getD-take}
 use Rattle.exact.specs.Lists.{into}
 use Rattle.exact.specs.Fractions.{then}
 use Rattle.exact.specs.declared.fractions.Verdict.{Verdict}

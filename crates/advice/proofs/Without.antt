@@ -1,12 +1,7 @@
 -- The runs but one: rising runs stay rising, lose that run and no other.
-use mathlib.Core.Path.{_≡_, refl, sym, _∙_, ap}
-use mathlib.Core.Bool.{Bool, true, false, cond}
-use mathlib.Core.Logic.{_⊎_, inl, inr}
-use mathlib.Core.List.{List, [], _∷_, _++_, List·Memᴰ, List·Memᴰ·head, List·Memᴰ·tail, List·Memᴰ·not-nil, List·Memᴰ·cases-cons}
-use Prim.Native.Nat.{ℕ, zero, suc, _<_}
-use native.Mathlib.Omega.{arith}
-use lib.Dec.{eqb, eqb→eq, eqb-refl}
-use lib.ListN.{length, getD, take, length-append}
+use Rattle.exact.proofs.Ground.{true, false, Bool, cond, List, [], _∷_, _++_, List·Memᴰ, List·Memᴰ·head, List·Memᴰ·tail, List·Memᴰ·not-nil}
+use Rattle.exact.proofs.Ground.{List·Memᴰ·cases-cons, _⊎_, inl, inr, _≡_, _∙_, sym, ap, refl, ℕ, _<_, suc, zero, arith, eqb, eqb→eq, eqb-refl, length}
+use Rattle.exact.proofs.Ground.{getD, take, length-append}
 use Rattle.exact.specs.Lists.{keep}
 use Rattle.exact.proofs.Tests.{is-true, is-false}
 use Rattle.exact.proofs.Members.{keep-mem}

@@ -5,7 +5,7 @@ ghost use Rattle.rules.specs.Plan.{plan, everyRun};
 ghost use Rattle.rules.specs.Refusals.{ofPlan};
 ghost use Rattle.advice.specs.Advice.{adviceAnswer, turnsAnswer};
 
-pub mod inner;
+pub mod routines;
 
 // The refusal, and beside it the run advised for loss, which is zero in a refusal.
 pub struct AdviceAnswer {
@@ -23,18 +23,18 @@ pub struct TurnsAnswer {
 pub fn advice(levels: &[u8], table: &[u8]) -> AdviceAnswer
     ensures { λ r. ⌜ (let p = plan (now (levels .entry)) (now (table .entry)) in r ≡ adviceAnswer p (everyRun p) (ofPlan p)) ⌝ }
 {
-    let checked = plan::inner::checked_runs(levels, table);
+    let checked = plan::routines::checked_runs(levels, table);
     let runs = checked.runs;
     let count = checked.count;
-    inner::advice_answer(checked.refused, levels, table, &runs[..count])
+    routines::advice_answer(checked.refused, levels, table, &runs[..count])
 }
 
 // The advice taken k times in turn; more than k must stand.
 pub fn in_turn(levels: &[u8], table: &[u8], k: usize) -> TurnsAnswer
     ensures { λ r. ⌜ (let p = plan (now (levels .entry)) (now (table .entry)) in r ≡ turnsAnswer p (everyRun p) (ofPlan p) k) ⌝ }
 {
-    let checked = plan::inner::checked_runs(levels, table);
+    let checked = plan::routines::checked_runs(levels, table);
     let runs = checked.runs;
     let count = checked.count;
-    inner::turns_answer(checked.refused, levels, table, &runs[..count], k)
+    routines::turns_answer(checked.refused, levels, table, &runs[..count], k)
 }

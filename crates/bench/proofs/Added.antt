@@ -1,11 +1,5 @@
 -- The words of the sets of f columns, set after set: how large their sum is, and that of all is the word of length f.
-use mathlib.Core.Path.{_≡_, sym, _∙_, ap}
-use mathlib.Core.List.{List, [], _∷_}
-use Prim.Native.Nat.{ℕ, _+_, _*_, _≤_, _<_}
-use native.Mathlib.Nat.{le-trans, zero-add}
-use native.Mathlib.Omega.{arith}
-use lib.ListN.{length}
-use lib.IntN.{ℤ, natAbs, _+ℤ_, +ℤ-idr}
+use Rattle.exact.proofs.Ground.{List, [], _∷_, _≡_, _∙_, sym, ap, ℕ, _≤_, _<_, _+_, _*_, zero-add, le-trans, arith, ℤ, natAbs, _+ℤ_, +ℤ-idr, length}
 use Rattle.exact.specs.Lists.{from, sum}
 use Rattle.exact.proofs.Numbers.{length-from, mem-from, from-snoc, mul-below}
 use Rattle.exact.proofs.Sums.{sum-++, sum-map}
@@ -16,10 +10,10 @@ use Rattle.sets.proofs.Places.{set-at-set, every-set}
 use Rattle.plan.specs.Good.{Sound}
 use Rattle.words.specs.Words.{wordOf, word}
 use Rattle.words.proofs.Bound.{sum-bound}
-use Rattle.projections.specs.Given.{Projection, SizeOf}
-use Rattle.projections.proofs.Products.{part-projection}
-use Rattle.projections.proofs.SetWords.{word-small}
-use Rattle.frequencies.proofs.Walks.{few-sets}
+use Rattle.set_words.specs.Given.{Projection, SizeOf}
+use Rattle.set_words.proofs.Products.{part-projection}
+use Rattle.set_words.proofs.SetWords.{word-small}
+use Rattle.projection_tables.proofs.Walks.{few-sets}
 
 module _ (p : Plan) (rs : List ℕ) (f : ℕ) (S : Sound p rs) (z : SizeOf (columns p) f) where
   abbrev pub setWord : ℕ → ℤ

@@ -1,12 +1,7 @@
 -- What the exports hand over fits: a refusal's number is at most 14, a table has no more lines than its rooms, and thousandths are few.
-use mathlib.Core.Path.{_≡_, refl, sym, _∙_, ap}
-use mathlib.Core.Bool.{Bool, true, false, cond}
-use mathlib.Core.List.{List, [], _∷_, List·Memᴰ, List·Memᴰ·head, List·Memᴰ·tail, Memᴰ·append-left, Memᴰ·append-right}
-use Prim.Native.Nat.{ℕ, zero, suc, _≤_, _<_, _^_}
-use native.Mathlib.Omega.{arith}
-use borrow.Author.Tests.{eqb-true, not-false, ltb-false}
-use lib.Dec.{T}
-use lib.ListN.{length}
+use Rattle.exact.proofs.Ground.{true, false, Bool, cond, List, [], _∷_, List·Memᴰ, List·Memᴰ·head, List·Memᴰ·tail, Memᴰ·append-left}
+use Rattle.exact.proofs.Ground.{Memᴰ·append-right, _≡_, _∙_, sym, ap, refl, ℕ, _≤_, _<_, suc, zero, _^_, arith, T, length, eqb-true, ltb-false}
+use Rattle.exact.proofs.Ground.{not-false}
 use Rattle.exact.proofs.Numbers.{length-from}
 use Rattle.rules.specs.declared.Refusal.{Refusal}
 use Rattle.rules.specs.Plan.{Plan, columns, level, entry, everyRun, everyColumn}
@@ -14,10 +9,10 @@ use Rattle.rules.specs.Refusals.{Check, refusal, refuses, largestNumber, planCh
 use Rattle.rules.proofs.Order.{known, number-most, passed-none, none-passed}
 use Rattle.plan.proofs.Checks.{passed-good}
 use Rattle.words.specs.Answers.{wordAnswer}
-use Rattle.projections.specs.declared.SetWordAnswer.{SetWordAnswer}
-use Rattle.projections.specs.Projections.{setWordAnswer}
-use Rattle.frequencies.specs.declared.TableAnswer.{TableAnswer}
-use Rattle.frequencies.specs.Frequencies.{Line, Rooms, shortest, tableRefusal, tableAnswer}
+use Rattle.set_words.specs.declared.SetWordAnswer.{SetWordAnswer}
+use Rattle.set_words.specs.SetWords.{setWordAnswer}
+use Rattle.projection_tables.specs.declared.TableAnswer.{TableAnswer}
+use Rattle.projection_tables.specs.Tables.{Line, Rooms, shortest, tableRefusal, tableAnswer}
 use Rattle.resolution.specs.declared.GeneralizedAnswer.{GeneralizedAnswer}
 use Rattle.resolution.specs.Resolution.{resolutionIn, ratioIn, resolutionChecks, thousandthsOf, generalizedAnswer}
 use Rattle.resolution.proofs.Resolved.{resolution-is}
@@ -26,8 +21,8 @@ use Rattle.held.specs.declared.HeldAnswer.{HeldAnswer}
 use Rattle.held.specs.Held.{IsHeld, planIn, openAnswer, strikes, reinstates, ofStanding}
 use Rattle.held.specs.History.{isAccepted}
 use Rattle.held.proofs.History.{call-held, undo}
-use Rattle.standing.specs.declared.HeldWord.{HeldWord}
-use Rattle.standing.specs.Answers.{heldWord}
+use Rattle.held_questions.specs.declared.HeldWord.{HeldWord}
+use Rattle.held_questions.specs.Answers.{heldWord}
 use Rattle.bench.specs.Exports.{round, rounds}
 
 -- no refusal: no check of the call fails

@@ -6,12 +6,12 @@ use lib.IntN.{ℤ, pos}
 use Rattle.rules.specs.Plan.{Plan, columns, level, entry, everyColumn, everyRun}
 use Rattle.rules.specs.Refusals.{refusal, numberOr, ofPlan, badSize}
 use Rattle.words.specs.Words.{word}
-use Rattle.projections.specs.Projections.{setWordAnswer}
-use Rattle.frequencies.specs.Frequencies.{Rooms, tableIn, tableAnswer}
+use Rattle.set_words.specs.SetWords.{setWordAnswer}
+use Rattle.projection_tables.specs.Tables.{Rooms, tableIn, tableAnswer}
 use Rattle.resolution.specs.Resolution.{generalizedAnswer}
 use Rattle.held.specs.declared.Held.{Held}
 use Rattle.held.specs.Held.{openAnswer, strikes, reinstates, callAnswer}
-use Rattle.standing.specs.Answers.{heldWord}
+use Rattle.held_questions.specs.Answers.{heldWord}
 
 -- a round: run 0 is struck and reinstated
 abbrev pub round : Held → Held

@@ -2,11 +2,11 @@
 // Each answers a number, or the refusal number negated.
 use exact::signed;
 use held::Held;
-use projections::Engine;
-use projections::inner::word_by_pairs;
-use sets::inner::binomial;
-use sets::inner::check_size;
-use sets::inner::set_at;
+use set_words::Engine;
+use set_words::routines::word_by_pairs;
+use sets::routines::binomial;
+use sets::routines::check_size;
+use sets::routines::set_at;
 ghost use mathlib.Core.Path.{_≡_};
 ghost use mathlib.Core.List.{[]};
 ghost use Prim.Native.Nat.{_≤_};
@@ -16,8 +16,8 @@ ghost use Rattle.rules.specs.Refusals.{ofPlan};
 ghost use Rattle.plan.specs.Good.{Sound};
 ghost use Rattle.words.specs.Words.{wordOf, word};
 ghost use Rattle.parts.specs.Parts.{counted};
-ghost use Rattle.projections.specs.Given.{Projection, SizeOf};
-ghost use Rattle.frequencies.specs.Frequencies.{rooms, tableIn, tableRooms};
+ghost use Rattle.set_words.specs.Given.{Projection, SizeOf};
+ghost use Rattle.projection_tables.specs.Tables.{rooms, tableIn, tableRooms};
 ghost use Rattle.held.specs.Held.{IsHeld};
 ghost use Rattle.bench.specs.Exports.{rounds, strikesNumber, tableNumber, ratioNumber, setWordNumber, setWordsNumber};
 
@@ -46,7 +46,7 @@ pub extern "C" fn bench_strikes(levels: &[u8], table: &[u8], length: u64, times:
     let held = opened.held;
     let struck = held::calls::strike(rounds(held, times), 0);
     let left = struck.held;
-    let asked = standing::questions::word(left, length as usize);
+    let asked = held_questions::questions::word(left, length as usize);
     let answer = asked.answer;
     opened
         .refused
@@ -72,7 +72,15 @@ pub extern "C" fn bench_table(
         rooms (now (nums .exit)) (now (dens .exit)) (now (counts .exit)) ≡
         tableRooms (ofPlan p) (columns p) f (tableIn relative p (everyRun p) f) R) ⌝ }
 {
-    let answer = frequencies::frequencies(levels, table, f as usize, relative, nums, dens, counts);
+    let answer = projection_tables::frequencies(
+        levels,
+        table,
+        f as usize,
+        relative,
+        nums,
+        dens,
+        counts,
+    );
     answer.refused.number_or(signed::of_size(answer.lines))
 }
 
@@ -101,7 +109,7 @@ pub extern "C" fn bench_set_word(
     } else {
         Engine::Counts
     };
-    let answer = projections::set_word_by(levels, table, f as usize, columns, engine);
+    let answer = set_words::set_word_by(levels, table, f as usize, columns, engine);
     answer.refused.number_or(answer.word)
 }
 
@@ -150,7 +158,7 @@ pub extern "C" fn bench_set_words(levels: &[u8], table: &[u8], f: u64, by_pairs:
     ensures { λ r. ⌜ r ≡ setWordsNumber (plan (now (levels .entry)) (now (table .entry))) f ⌝ }
 {
     let size = f as usize;
-    let checked = plan::inner::checked_runs(levels, table);
+    let checked = plan::routines::checked_runs(levels, table);
     let refused = checked.refused.or_else(check_size(levels.len(), size));
     if refused.number != 0 {
         return refused.number_or(0);

@@ -1,13 +1,6 @@
 -- The best of a list of candidates is what its record says, there is only one, and a loop that keeps the best so far finds it: by either rule.
-use mathlib.Core.Path.{_≡_, refl, sym, _∙_, ap, subst}
-use mathlib.Core.Bool.{Bool, true, false, cond}
-use mathlib.Core.Logic.{_⊎_, inl, inr}
-use mathlib.Core.List.{List, [], _∷_, List·Memᴰ, List·Memᴰ·head, List·Memᴰ·tail, List·Memᴰ·not-nil}
-use Prim.Native.Nat.{ℕ, zero, suc, _+_, _<_}
-use native.Mathlib.Numerals.{add-one}
-use native.Mathlib.Omega.{arith}
-use lib.ListN.{length, getD, drop}
-use lib.Seq.{drop-cons, drop-length}
+use Rattle.exact.proofs.Ground.{true, false, Bool, cond, List, [], _∷_, List·Memᴰ, List·Memᴰ·head, List·Memᴰ·tail, List·Memᴰ·not-nil, _⊎_, inl, inr}
+use Rattle.exact.proofs.Ground.{_≡_, _∙_, sym, ap, refl, subst, ℕ, _<_, _+_, suc, zero, add-one, arith, length, getD, drop, drop-cons, drop-length}
 use Rattle.exact.specs.Lawful.{Lawful}
 use Rattle.exact.specs.Lists.{keep}
 use Rattle.exact.specs.Fractions.{isBetter}

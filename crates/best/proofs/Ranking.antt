@@ -1,8 +1,5 @@
 -- What follows of a lawful comparison, and that any chain of lawful comparisons is one.
-use mathlib.Core.Path.{_≡_, refl, sym, _∙_, ap}
-use mathlib.Core.Bool.{true, false}
-use mathlib.Core.Logic.{_⊎_, inl, inr}
-use mathlib.Core.List.{List, [], _∷_, List·Memᴰ, List·Memᴰ·head, List·Memᴰ·tail}
+use Rattle.exact.proofs.Ground.{true, false, List, [], _∷_, List·Memᴰ, List·Memᴰ·head, List·Memᴰ·tail, _⊎_, inl, inr, _≡_, _∙_, sym, ap, refl}
 use Rattle.exact.specs.Lawful.{opposite, Lawful}
 use Rattle.exact.specs.Fractions.{then, isBetter, isEqual}
 use Rattle.exact.specs.declared.fractions.Verdict.{Verdict}

@@ -1,22 +1,26 @@
 -- Document 01, "Words" and "Refusal numbers": comparisons of the listing's plan with others, from the definitions.
-use mathlib.Core.Path.{_≡_, refl}
-use mathlib.Core.List.{List, [], _∷_, map}
+use Rattle.exact.proofs.Ground.{List, [], _∷_, map, none, _≡_, refl, ℕ}
+use mathlib.Core.Option.{Option, some}
 use Rattle.exact.specs.Fractions.{smallerFraction}
+use Rattle.exact.specs.declared.fractions.Verdict.{Verdict}
 use Rattle.exact.specs.declared.fractions.Verdict.the-variants.{Better, Worse, Equal}
 use Rattle.rules.specs.Plan.{Plan, plan}
-use Rattle.rules.specs.Refusals.{plain, firstBadLevel, firstBadEntry}
+use Rattle.rules.specs.declared.Refusal.{Refusal}
+use Rattle.rules.specs.Refusals.{accepted, plain, firstBadLevel, firstBadEntry}
 use Rattle.words.specs.Words.{score, wordOf, word}
-use Rattle.compare.specs.declared.Comparison.{Comparison}
-use Rattle.compare.specs.declared.Comparison.the-variants.{Compared, NotComparable, Refused}
-use Rattle.compare.specs.Compare.{A, pattern, comparePatterns, compareAnswer, comparePlans}
+use Rattle.compare.specs.Compare.{Says, comparisonSays, A, pattern, comparePatterns, compareAnswer, comparePlans}
 
 record Figure : Type 0 where
   first : Plan
   second : Plan
-  answer : Comparison
+  answer : Says
 
-abbrev is : Plan → Plan → Comparison → Figure
-is p q c = record { first = p; second = q; answer = c }
+-- compared, not comparable, or the plan of this number is refused
+abbrev is : Plan → Plan → Option Verdict → Figure
+is p q v = record { first = p; second = q; answer = record { refused = accepted; plan = 0; verdict = v } }
+
+abbrev refuses : Plan → Plan → ℕ → Refusal → Figure
+refuses p q k r = record { first = p; second = q; answer = record { refused = r; plan = k; verdict = none } }
 
 -- levels 2,3 and the runs 00 01 12; then without run 0, and without run 2: W = 1, 8 and 2, 6 and 6, 2
 abbrev listed : Plan
@@ -34,16 +38,16 @@ refused = plan [] []
 figures : List Figure
 figures =
     -- 1/9 against 2/4, and 2/4 against 6/4: the numbers of runs may differ
-    is listed without-0 (Compared Better)
-    ∷ is without-2 without-0 (Compared Worse)
-    ∷ is listed listed (Compared Equal)
+    is listed without-0 (some Better)
+    ∷ is without-2 without-0 (some Worse)
+    ∷ is listed listed (some Equal)
     -- two columns against one
-    ∷ is listed (plan (2 ∷ []) (0 ∷ 1 ∷ [])) NotComparable
+    ∷ is listed (plan (2 ∷ []) (0 ∷ 1 ∷ [])) none
     -- the first is checked entirely, then the second
-    ∷ is refused (plan (1 ∷ []) []) (Refused 1 (plain 1))
-    ∷ is listed refused (Refused 2 (plain 1))
+    ∷ refuses refused (plan (1 ∷ []) []) 1 (plain 1)
+    ∷ refuses listed refused 2 (plain 1)
     ∷ []
 
-compare-figures : map (λ x. comparePlans (x .first) (x .second)) figures ≡ map (λ x. x .answer) figures
+compare-figures : map (λ x. comparisonSays (comparePlans (x .first) (x .second))) figures ≡ map (λ x. x .answer) figures
 unfolding figures firstBadLevel firstBadEntry smallerFraction score wordOf word A pattern comparePatterns compareAnswer
 compare-figures = refl

@@ -1,8 +1,5 @@
 -- The comparison of patterns is lawful, and so is that of plans with equally many columns.
-use mathlib.Core.Path.{_≡_, refl, ap, ap₂, subst}
-use mathlib.Core.List.{List, [], _∷_, map, List·Memᴰ, Memᴰ·of-map}
-use Prim.Native.Nat.{ℕ, _<_}
-use native.Mathlib.Nat.{mul-pos}
+use Rattle.exact.proofs.Ground.{List, [], _∷_, map, List·Memᴰ, Memᴰ·of-map, _≡_, ap, refl, ap₂, subst, ℕ, _<_, mul-pos}
 use Rattle.exact.specs.Lawful.{Lawful}
 use Rattle.exact.specs.Lists.{from}
 use Rattle.exact.specs.Fractions.{then, smallerFraction}

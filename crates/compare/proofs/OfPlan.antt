@@ -1,12 +1,8 @@
 -- The words of some runs of a plan, as the comparison takes them.
-use mathlib.Core.Path.{_≡_, sym, _∙_, ap, subst}
-use mathlib.Core.List.{List, _++_, map, map-map}
-use Prim.Native.Nat.{ℕ, _+_, _-_, _≤_}
-use native.Mathlib.Omega.{arith}
-use lib.IntN.{ℤ, pos}
-use lib.ListN.{length, getD, take, length-map, List·getD-map}
-use lib.Seq.{take-at}
-use lib.Signed.{_≤ℤ_}
+use Rattle.exact.proofs.Ground.{List, map, _++_, _≡_, _∙_, sym, ap, subst, ℕ, _≤_, _-_, _+_, arith, pos, ℤ, length, getD, take, length-map, take-at}
+use Rattle.exact.proofs.Ground.{_≤ℤ_}
+use mathlib.Core.List.{map-map}
+use lib.ListN.{List·getD-map}
 use Rattle.exact.specs.Lists.{from}
 use Rattle.exact.proofs.Numbers.{length-from, from-add}
 use Rattle.exact.proofs.Rooms.{map-++}

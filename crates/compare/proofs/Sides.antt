@@ -1,9 +1,5 @@
 -- A side that stands for some runs of a plan, and the comparison of two.
-use mathlib.Core.Path.{_≡_, refl, sym, _∙_, ap, ap₂}
-use mathlib.Core.List.{List, []}
-use Prim.Native.Nat.{ℕ}
-use native.Mathlib.Decide.{ℕ-discrete}
-use borrow.Author.Tests.{ne-eqb}
+use Rattle.exact.proofs.Ground.{List, [], _≡_, _∙_, sym, ap, refl, ap₂, ℕ, ℕ-discrete, ne-eqb}
 use Rattle.exact.proofs.Numbers.{length-from}
 use Rattle.rules.specs.declared.Refusal.{Refusal}
 use Rattle.rules.specs.Plan.{Plan, columns, runs, everyRun}
@@ -11,9 +7,9 @@ use Rattle.rules.specs.Refusals.{Check, refusal, planChecks}
 use Rattle.plan.proofs.Checks.{passed-good, good-passed}
 use Rattle.plan.proofs.Sound.{good-sound}
 use Rattle.compare.specs.declared.Comparison.{Comparison}
-use Rattle.compare.specs.declared.inner.Side.{Side}
+use Rattle.compare.specs.declared.routines.Side.{Side}
 use Rattle.compare.specs.Compare.{patternOf, verdictOf, comparisonBeside, compareAnswer}
-use Rattle.compare.specs.Given.{patternIn, compareSides, Sided, SideOf, wholeSide}
+use Rattle.compare.specs.Given.{sidePattern, compareSides, Sided, SideOf, wholeSide}
 use Rattle.compare.proofs.OfPlan.{pattern-words, words-given}
 
 module _ (p : Plan) (rs : List ℕ) (x : Side) where
@@ -23,7 +19,7 @@ module _ (p : Plan) (rs : List ℕ) (x : Side) where
     few = λ z. rw (side z .columns-are) (side z .sound .columns-high);
   }
 
-  pattern-in : SideOf p rs x → patternIn x ≡ patternOf p rs
+  pattern-in : SideOf p rs x → sidePattern x ≡ patternOf p rs
   pattern-in S = rw (S .runs-are, S .columns-are, S .words-are) (sym (pattern-words p rs (S .sound)))
 
 -- a verdict counts where neither plan is refused

@@ -1,13 +1,7 @@
 -- A loop over the lengths: what the lengths from the present one on decide is what all decide.
-use mathlib.Core.Path.{_≡_, sym, _∙_, ap, ap₂}
-use mathlib.Core.List.{List, [], _∷_, map}
-use Prim.Native.Nat.{ℕ, _+_, _≤_, _<_}
-use native.Mathlib.Nat.{mul-pos}
-use native.Mathlib.Numerals.{add-one}
-use native.Mathlib.Omega.{arith}
-use lib.ListN.{length, getD, take, drop, length-map, List·getD-map}
-use lib.Seq.{drop-cons, drop-length, getD-take, length-take-le}
-use lib.IntN.{ℤ, pos}
+use Rattle.exact.proofs.Ground.{List, [], _∷_, map, _≡_, _∙_, sym, ap, ap₂, ℕ, _≤_, _<_, _+_, mul-pos, add-one, arith, pos, ℤ, length, getD, take}
+use Rattle.exact.proofs.Ground.{drop, length-map, length-take-le, drop-cons, drop-length, getD-take}
+use lib.ListN.{List·getD-map}
 use Rattle.exact.specs.Fractions.{then, smallerFraction, ShortDenominator}
 use Rattle.exact.specs.declared.fractions.Fraction.{Fraction}
 use Rattle.exact.specs.declared.fractions.Verdict.{Verdict}

@@ -1,6 +1,7 @@
 -- Document 01, "Words": the comparison of two plans (generalized minimum aberration).
 use mathlib.Core.Bool.{cond}
 use mathlib.Core.List.{List, [], _∷_, map}
+use mathlib.Core.Option.{Option, none, some}
 use Prim.Native.Nat.{ℕ, _*_}
 use lib.Dec.{eqb}
 use lib.IntN.{ℤ, natAbs}
@@ -11,7 +12,7 @@ use Rattle.exact.specs.declared.fractions.Fraction.{Fraction}
 use Rattle.exact.specs.declared.fractions.Verdict.{Verdict}
 use Rattle.exact.specs.declared.fractions.Verdict.the-variants.{Equal}
 use Rattle.rules.specs.Plan.{Plan, columns, level, entry, everyColumn, everyRun}
-use Rattle.rules.specs.Refusals.{Check, refusal, refuses, ofPlan}
+use Rattle.rules.specs.Refusals.{Check, refusal, refuses, accepted, ofPlan}
 use Rattle.rules.specs.declared.Refusal.{Refusal}
 use Rattle.words.specs.Words.{word}
 use Rattle.compare.specs.declared.Comparison.{Comparison}
@@ -34,6 +35,18 @@ unfoldable pub comparePatterns : List Fraction → List Fraction → Verdict
 comparePatterns [] ys = Equal
 comparePatterns (x ∷ xs) [] = Equal
 comparePatterns (x ∷ xs) (y ∷ ys) = then (smallerFraction x y) (comparePatterns xs ys)
+
+-- what an answer says, in document 01's numbers: the refusal's number and places (number 0 is no refusal), which plan it is of (1 or 2, and 0
+-- where nothing is refused), and the verdict. With no refusal and no verdict it is "not comparable"
+pub record Says : Type 0 where
+  pub refused : Refusal
+  pub plan : ℕ
+  pub verdict : Option Verdict
+
+abbrev pub comparisonSays : Comparison → Says
+comparisonSays (Compared v) = record { refused = accepted; plan = 0; verdict = some v }
+comparisonSays NotComparable = record { refused = accepted; plan = 0; verdict = none }
+comparisonSays (Refused k r) = record { refused = r; plan = k; verdict = none }
 
 -- the pattern of the runs rs of plan p
 abbrev pub patternOf : Plan → List ℕ → List Fraction

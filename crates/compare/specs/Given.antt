@@ -13,7 +13,7 @@ use Rattle.plan.specs.Given.{runsOf}
 use Rattle.words.specs.Answers.{zeros, wordList}
 use Rattle.compare.specs.Compare.{over, verdictOf, comparisonBeside}
 use Rattle.compare.specs.declared.Comparison.{Comparison}
-use Rattle.compare.specs.declared.inner.Side.{Side}
+use Rattle.compare.specs.declared.routines.Side.{Side}
 
 -- a scaled word of n runs
 pub record WordOf (n : ℕ) (word : ℤ) : Type 0 where
@@ -29,12 +29,12 @@ pub record WordsOf (n : ℕ) (words : List ℤ) : Type 0 where
 -- ---- a side: a plan's refusal, its words, its numbers of runs and of columns
 
 -- its pattern
-abbrev pub patternIn : Side → List Fraction
-patternIn x = map (over (x .runs)) (take (x .columns) (x .words))
+abbrev pub sidePattern : Side → List Fraction
+sidePattern x = map (over (x .runs)) (take (x .columns) (x .words))
 
 -- one side against the other
 abbrev pub compareSides : Side → Side → Comparison
-compareSides x y = comparisonBeside (x .refused) (y .refused) (verdictOf (x .columns) (patternIn x) (y .columns) (patternIn y))
+compareSides x y = comparisonBeside (x .refused) (y .refused) (verdictOf (x .columns) (sidePattern x) (y .columns) (sidePattern y))
 
 -- its numbers are words, where nothing is refused
 pub record Sided (x : Side) : Type 0 where

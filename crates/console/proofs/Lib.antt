@@ -1,3 +1,5 @@
 pub mod Figures
 pub mod LinesEnd
 pub mod Pieces
+pub mod Named
+pub mod ArgumentFigures

@@ -5,19 +5,19 @@ use lines::line_after;
 use rules::Refusal;
 use rules::sizes::LONGEST_TEXT;
 use rules::sizes::MOST_COLUMNS;
+use rules::sizes::MOST_ENTRIES;
 ghost use mathlib.Core.Path.{_≡_};
 ghost use Prim.Native.Nat.{_+_};
 ghost use lib.ListN.{length};
 ghost use Rattle.io.specs.Counts.{Counts};
-ghost use Rattle.rules.specs.Plan.{longestText, mostColumns};
+ghost use Rattle.rules.specs.Plan.{longestText, mostColumns, mostEntries};
 ghost use Rattle.text.specs.Reader.{readRefusal};
 
+pub mod arguments;
 pub mod lines;
 
 // One byte more than the longest text, so that a longer one is refused as such.
 const TEXT_ROOM: usize = LONGEST_TEXT + 1;
-
-const MOST_ENTRIES: usize = 6144;
 
 const MALFORMED: u64 = 14;
 
@@ -106,7 +106,7 @@ pub fn write(bytes: &[u8]) -> bool {
 
 // What refuses a text: 13, 14 or 1 to 5. Number 0 is no refusal.
 pub fn refusal_of(text: &[u8]) -> Refusal
-    ensures { λ r. ⌜ r ≡ readRefusal (now (text .entry)) mostColumns 6144 ⌝ }
+    ensures { λ r. ⌜ r ≡ readRefusal (now (text .entry)) mostColumns mostEntries ⌝ }
 {
     let mut levels = [0u8; MOST_COLUMNS];
     let mut table = [0u8; MOST_ENTRIES];

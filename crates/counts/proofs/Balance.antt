@@ -1,11 +1,6 @@
 -- Strength is what document 01 says: the largest t such that in every choice of t columns all level combinations occur equally often.
-use mathlib.Core.Path.{_≡_, refl, sym, _∙_, subst}
-use mathlib.Core.List.{List, [], _∷_, map, List·Memᴰ, List·Memᴰ·head, List·Memᴰ·tail, Memᴰ·map, Memᴰ·of-map}
-use mathlib.Core.List.{List·Memᴰ·not-nil}
-use Prim.Native.Nat.{ℕ, zero, suc, _<_}
-use native.Mathlib.Omega.{arith}
-use lib.Dec.{T, eqb, eqb-refl}
-use lib.ListN.{length}
+use Rattle.exact.proofs.Ground.{List, [], _∷_, map, List·Memᴰ, List·Memᴰ·head, List·Memᴰ·tail, List·Memᴰ·not-nil, Memᴰ·of-map, Memᴰ·map, _≡_, _∙_}
+use Rattle.exact.proofs.Ground.{sym, refl, subst, ℕ, _<_, suc, zero, arith, eqb, T, eqb-refl, length}
 use Rattle.exact.specs.Lists.{alike, largest}
 use Rattle.exact.proofs.Tests.{all-mem, mem-all}
 use Rattle.exact.proofs.Searches.{largest-is}

@@ -1,13 +1,9 @@
 -- A set of columns whose proper parts all have word 0: its word is at most n²(s - 1), for each level s in it.
-use mathlib.Core.Path.{_≡_, sym, _∙_, ap, subst, subst₂}
-use mathlib.Core.Bool.{Bool, true, false, cond}
-use mathlib.Core.List.{List, [], _∷_, _++_}
-use Prim.Native.Nat.{ℕ, _<_}
-use native.Mathlib.Omega.{arith}
-use lib.ListN.{length, length-append}
-use lib.Dec.{eqb}
-use lib.IntN.{ℤ, pos, negℤ, _+ℤ_, _-ℤ_, _*ℤ_, +ℤ-negℤ-cancel, -ℤ-+ℤ-cancel}
-use lib.Signed.{_≤ℤ_, ≤ℤ-refl}
+use Rattle.exact.proofs.Ground.{true, false, Bool, cond, List, [], _∷_, _++_, _≡_, _∙_, sym, ap, subst, ℕ, _<_, arith, eqb, pos, ℤ, _*ℤ_, _+ℤ_, _-ℤ_}
+use Rattle.exact.proofs.Ground.{negℤ, length, length-append, _≤ℤ_}
+use mathlib.Core.Path.{subst₂}
+use lib.IntN.{+ℤ-negℤ-cancel, -ℤ-+ℤ-cancel}
+use lib.Signed.{≤ℤ-refl}
 use Rattle.exact.specs.Lists.{sum, prod}
 use Rattle.exact.proofs.Ring.{ring, *-one}
 use Rattle.exact.proofs.Order.{≤-+, nonneg, 0≤-*, *-mono}
@@ -43,7 +39,7 @@ module _ {A : Type 0} where
   prod-nonneg [] f h = nonneg 1
   prod-nonneg (x ∷ xs) f h = 0≤-* (h x) (prod-nonneg xs f h)
 
-score-plus : (s a b : ℕ) → score s a b +ℤ pos 1 ≡ pos s *ℤ agree a b
+pub score-plus : (s a b : ℕ) → score s a b +ℤ pos 1 ≡ pos s *ℤ agree a b
 score-plus s a b = rw (score-agree s a b) (-ℤ-+ℤ-cancel (pos s *ℤ agree a b) (pos 1))
 
 lower : (S d p : ℤ) → pos 0 ≤ℤ S → d ≤ℤ pos 1 → pos 0 ≤ℤ p → ((S *ℤ d) *ℤ p) ≤ℤ (S *ℤ p)

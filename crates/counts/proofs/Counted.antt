@@ -1,16 +1,9 @@
 -- Every run has one combination, so the counts of all combinations come to the number of runs; where they are alike, each is that number
 -- over the product of the levels. So columns with more combinations than runs are not even.
-use mathlib.Core.Path.{_≡_, refl, sym, _∙_, ap, subst}
-use mathlib.Core.Bool.{false, cond}
-use mathlib.Core.Logic.{_⊎_, inl, inr}
-use mathlib.Core.List.{List, [], _∷_, map, List·Memᴰ, List·Memᴰ·head, List·Memᴰ·tail, List·Memᴰ·not-nil, List·Memᴰ·cases-cons, Memᴰ·map}
-use Prim.Native.Nat.{ℕ, zero, suc, _+_, _*_, _≤_, _<_}
-use native.Mathlib.Nat.{suc-mul, mul-zero, zero-mul}
-use native.Mathlib.Decide.{decLt}
-use native.Mathlib.Omega.{arith}
-use borrow.Author.Tests.{eq-eqb, ne-eqb}
-use lib.Dec.{T, eqb, eqb→eq}
-use lib.ListN.{length}
+use Rattle.exact.proofs.Ground.{false, cond, List, [], _∷_, map, List·Memᴰ, List·Memᴰ·head, List·Memᴰ·tail, List·Memᴰ·not-nil, Memᴰ·map}
+use Rattle.exact.proofs.Ground.{List·Memᴰ·cases-cons, _⊎_, inl, inr, _≡_, _∙_, sym, ap, refl, subst, ℕ, _≤_, _<_, _+_, _*_, suc, zero, decLt, suc-mul}
+use Rattle.exact.proofs.Ground.{zero-mul, arith, eqb, T, eqb→eq, length, ne-eqb, eq-eqb}
+use native.Mathlib.Nat.{mul-zero}
 use Rattle.exact.specs.Lists.{from, all, alike}
 use Rattle.exact.proofs.Numbers.{from-mem}
 use Rattle.exact.proofs.Rooms.{length-numbered}

@@ -1,20 +1,17 @@
 -- The words of a set of columns and of its parts are 0 exactly where the set shows every combination equally often: by weights on the runs.
-use mathlib.Core.Path.{_≡_, refl, sym, _∙_, ap}
-use mathlib.Core.Logic.{_⊎_, inl, inr}
-use mathlib.Core.List.{List, [], _∷_, List·Memᴰ, List·Memᴰ·head, List·Memᴰ·tail, List·Memᴰ·not-nil, List·Memᴰ·cases-cons}
-use Prim.Native.Nat.{ℕ, _<_, zero-le}
-use native.Mathlib.Omega.{arith}
-use lib.ListN.{length}
-use lib.IntN.{ℤ, pos, negsuc, negℤ, _+ℤ_, _-ℤ_, _*ℤ_, *ℤ-zero, zero-*ℤ, +ℤ-idl, +ℤ-comm, sucℤ-*ℤ, +ℤ-invr, -ℤ-+ℤ-cancel}
-use lib.Signed.{_≤ℤ_}
+use Rattle.exact.proofs.Ground.{List, [], _∷_, List·Memᴰ, List·Memᴰ·head, List·Memᴰ·tail, List·Memᴰ·not-nil, List·Memᴰ·cases-cons, _⊎_, inl, inr, _≡_}
+use Rattle.exact.proofs.Ground.{_∙_, sym, ap, refl, ℕ, _<_, zero-le, arith, pos, ℤ, _*ℤ_, _+ℤ_, _-ℤ_, negsuc, negℤ, +ℤ-idl, +ℤ-comm, *ℤ-zero, zero-*ℤ}
+use Rattle.exact.proofs.Ground.{length, _≤ℤ_}
+use lib.IntN.{sucℤ-*ℤ, +ℤ-invr, -ℤ-+ℤ-cancel}
 use Rattle.exact.specs.Lists.{from, sum}
 use Rattle.exact.proofs.Ring.{ring, one-*, *-+, *-neg, *-assoc, minus-*}
 use Rattle.exact.proofs.Order.{square-zero, *-cancel, both-zero}
 use Rattle.exact.proofs.Numbers.{length-from, from-mem, mem-from}
 use Rattle.exact.proofs.Sums.{sum-cong, sum-cong-in, sum-+, sum-*, sum-0}
 use Rattle.sets.proofs.Parts.{Part, none, skip, keep, part-nil}
+use Rattle.words.specs.Entries.{Below, AllBelow}
 use Rattle.words.proofs.Squares.{agree, spread, pick}
-use Rattle.words.proofs.Positive.{sum-nonneg, weighed, Below, weighed-nil, weighed-cons, weighed-nonneg}
+use Rattle.words.proofs.Positive.{sum-nonneg, weighed, weighed-nil, weighed-cons, weighed-nonneg}
 
 module _ {A : Type 0} where
   -- numbers that are not negative come to 0 only where each is 0
@@ -47,10 +44,6 @@ factor : (c d w u x : ℤ) → c *ℤ (w *ℤ x) +ℤ d *ℤ (u *ℤ x) ≡ (c *
 factor c d w u x = simp ring
 
 module _ {R C : Type 0} (level : C → ℕ) (entry : R → C → ℕ) (runs : List R) where
-  -- every column of I has entries below its level
-  abbrev pub AllBelow : List C → Type 0
-  AllBelow I = (i : C) → List·Memᴰ i I → Below level entry runs i
-
   -- the level of column i where run f has a in it, and 0 elsewhere; and the same less 1
   abbrev mark : C → ℕ → R → ℤ
   mark i a f = pos (level i) *ℤ agree (entry f i) a
@@ -72,17 +65,17 @@ module _ {R C : Type 0} (level : C → ℕ) (entry : R → C → ℕ) (runs : Li
   Scaled [] w t = sum runs w ≡ t
   Scaled (i ∷ K) w t = (a : ℕ) → a < level i → Scaled K (λ f. w f *ℤ mark i a f) t
 
-  pub zero→vanish : (I : List C) (w : R → ℤ) → AllBelow I → weighed level entry runs I w ≡ pos 0 → Vanish I w
+  pub zero→vanish : (I : List C) (w : R → ℤ) → AllBelow level entry runs I → weighed level entry runs I w ≡ pos 0 → Vanish I w
   zero→vanish [] w v e = square-zero (sum runs w) (sym (weighed-nil level entry runs w) ∙ e)
   zero→vanish (i ∷ I) w v e = λ a h.
-      let later : AllBelow I = λ k n. v k (List·Memᴰ·tail n) in
+      let later : AllBelow level entry runs I = λ k n. v k (List·Memᴰ·tail n) in
       zero→vanish I (λ f. w f *ℤ less i a f) later
       (sum-zero (from 0 (level i)) (λ a. weighed level entry runs I (λ f. w f *ℤ less i a f))
       (λ a m. weighed-nonneg level entry runs I (λ f. w f *ℤ less i a f) later)
       (sym (weighed-cons level entry runs i I w (v i (List·Memᴰ·head refl))) ∙ ap (λ z. pos (level i) *ℤ z) e ∙ *ℤ-zero (pos (level i)))
       a (from-mem a 0 (level i) zero-le (omega arith)))
 
-  pub vanish→zero : (I : List C) (w : R → ℤ) → AllBelow I → Vanish I w → weighed level entry runs I w ≡ pos 0
+  pub vanish→zero : (I : List C) (w : R → ℤ) → AllBelow level entry runs I → Vanish I w → weighed level entry runs I w ≡ pos 0
   vanish→zero [] w v e = weighed-nil level entry runs w ∙ rw e
   vanish→zero (i ∷ I) w v h =
       *-cancel (v i (List·Memᴰ·head refl) .0)
@@ -144,7 +137,7 @@ module _ {R C : Type 0} (level : C → ℕ) (entry : R → C → ℕ) (runs : Li
       (rw (length-from 0 (level i)) at
       (scaled-sum K (from 0 (level i)) (λ a f. w f *ℤ mark i a f) t (λ a m. s a (let q = mem-from 0 (level i) m in omega arith)))))
 
-  scaled-none : (K : List C) (w : R → ℤ) (t : ℤ) → AllBelow K → Scaled K w t → sum runs w ≡ t
+  scaled-none : (K : List C) (w : R → ℤ) (t : ℤ) → AllBelow level entry runs K → Scaled K w t → sum runs w ≡ t
   scaled-none [] w t v s = s
   scaled-none (i ∷ K) w t v s =
       scaled-none K w t (λ k n. v k (List·Memᴰ·tail n)) (scaled-later i K w t (v i (List·Memᴰ·head refl)) s)
@@ -171,14 +164,14 @@ module _ {R C : Type 0} (level : C → ℕ) (entry : R → C → ℕ) (runs : Li
   either [] w e h = e
   either (i ∷ I) w e h = h
 
-  pub scaled→vanish : {I K : List C} → Part I K → (w : R → ℤ) (t : ℤ) → AllBelow K → Scaled K w t → Vanish⁺ I w
+  pub scaled→vanish : {I K : List C} → Part I K → (w : R → ℤ) (t : ℤ) → AllBelow level entry runs K → Scaled K w t → Vanish⁺ I w
   scaled→vanish none w t v s = tt
   scaled→vanish (skip {x = i} {K = K} p) w t v s =
       scaled→vanish p w t (λ k n. v k (List·Memᴰ·tail n)) (scaled-later i K w t (v i (List·Memᴰ·head refl)) s)
   scaled→vanish (keep {x = i} {I = I} {K = K} p) w t v s = λ a l.
       let x = mark i a in
       let u : R → ℤ = λ f. w f *ℤ (x f -ℤ pos 1) in
-      let v′ : AllBelow K = λ k n. v k (List·Memᴰ·tail n) in
+      let v′ : AllBelow level entry runs K = λ k n. v k (List·Memᴰ·tail n) in
       let d : Scaled K u (pos 0)
       = scaled-cong K (λ f. w f *ℤ x f -ℤ w f) u (pos 0) (λ f m. unsplit (w f) (x f))
       (rw (+ℤ-invr t) at (scaled-sub K (λ f. w f *ℤ x f) w t t (s a l) (scaled-later i K w t (v i (List·Memᴰ·head refl)) s))) in

@@ -1,9 +1,5 @@
--- Document 01, "Worked figures": the starred strengths, a level that never occurs, and columns of one level, in a single statement over their
--- table.
-use mathlib.Core.Path.{_≡_, refl}
-use mathlib.Core.List.{List, [], _∷_, map}
-use Prim.Native.Nat.{ℕ, _-_}
-use lib.ListN.{replicate}
+-- Worked figures: the strength of the listing's plan, with a level that never occurs, and with columns of one level.
+use Rattle.exact.proofs.Ground.{List, [], _∷_, map, _≡_, refl, ℕ, replicate}
 use Rattle.rules.specs.Plan.{Plan, plan, level, entry, everyRun, everyColumn}
 use Rattle.counts.specs.Counts.{even, balanced, strength}
 
@@ -16,12 +12,8 @@ is levels table t = record { asked = plan levels table; strong = t }
 
 figures : List Figure
 figures =
-    -- runs 000 011 101 110
-    is (2 ∷ 2 ∷ 2 ∷ []) (0 ∷ 0 ∷ 0 ∷ 0 ∷ 1 ∷ 1 ∷ 1 ∷ 0 ∷ 1 ∷ 1 ∷ 1 ∷ 0 ∷ []) 2
-    -- all six runs
-    ∷ is (3 ∷ 2 ∷ []) (0 ∷ 0 ∷ 0 ∷ 1 ∷ 1 ∷ 0 ∷ 1 ∷ 1 ∷ 2 ∷ 0 ∷ 2 ∷ 1 ∷ []) 2
     -- runs 00 01 12
-    ∷ is (2 ∷ 3 ∷ []) (0 ∷ 0 ∷ 0 ∷ 1 ∷ 1 ∷ 2 ∷ []) 0
+    is (2 ∷ 3 ∷ []) (0 ∷ 0 ∷ 0 ∷ 1 ∷ 1 ∷ 2 ∷ []) 0
     -- runs 0 1 of one column: level 2 never occurs and counts
     ∷ is (3 ∷ []) (0 ∷ 1 ∷ []) 0
     ∷ is (2 ∷ []) (0 ∷ 1 ∷ []) 1

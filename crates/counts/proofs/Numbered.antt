@@ -1,14 +1,9 @@
 -- The combinations of some columns have the numbers 0, 1, 2 and so on, so that they can be counted in an array.
-use mathlib.Core.Path.{_≡_, refl, sym, _∙_, ap, subst}
-use mathlib.Core.Bool.{Bool, _&&_}
-use mathlib.Core.Logic.{_⊎_, inl, inr}
-use mathlib.Core.List.{List, [], _∷_, map, map-map, map-append, List·Memᴰ, List·Memᴰ·head, List·Memᴰ·tail, List·Memᴰ·not-nil}
-use mathlib.Core.List.{List·Memᴰ·append-cases, Memᴰ·of-map}
-use Prim.Native.Nat.{ℕ, zero, suc, _+_, _*_, _<_}
-use native.Mathlib.Nat.{add-zero, add-suc, zero-mul, suc-mul, mul-le-mul-right, zero-lt-suc, add-comm}
-use native.Mathlib.Decide.{decLt}
-use native.Mathlib.Omega.{arith}
-use lib.Dec.{T, eqb, eqb→eq, eqb-refl}
+use Rattle.exact.proofs.Ground.{Bool, _&&_, List, [], _∷_, map, List·Memᴰ, List·Memᴰ·head, List·Memᴰ·tail, List·Memᴰ·not-nil, Memᴰ·of-map}
+use Rattle.exact.proofs.Ground.{List·Memᴰ·append-cases, _⊎_, inl, inr, _≡_, _∙_, sym, ap, refl, subst, ℕ, _<_, _+_, _*_, suc, zero, decLt, add-zero}
+use Rattle.exact.proofs.Ground.{mul-le-mul-right, suc-mul, zero-mul, arith, eqb, T, eqb→eq, eqb-refl}
+use mathlib.Core.List.{map-map, map-append}
+use native.Mathlib.Nat.{add-suc, zero-lt-suc, add-comm}
 use Rattle.exact.specs.Lists.{from, each, alike, count}
 use Rattle.exact.proofs.Numbers.{from-add, mem-from}
 use Rattle.exact.proofs.Tests.{both, join, iff-eq}
@@ -113,7 +108,7 @@ module _ {R C : Type 0} (level : C → ℕ) (entry : R → C → ℕ) (rs : List
       omega (arith, number-below J (λ f m k n. v f m k (List·Memᴰ·tail n)) f m, mul-le-mul-right (productOf level J) (v f m i (List·Memᴰ·head refl)))
 
   -- a run has a combination exactly where the numbers agree
-  shows-number : (J : List C) → Below J → (f : R) → List·Memᴰ f rs → (P : List ℕ) → List·Memᴰ P (combinations level J) →
+  pub shows-number : (J : List C) → Below J → (f : R) → List·Memᴰ f rs → (P : List ℕ) → List·Memᴰ P (combinations level J) →
       shows entry f J P ≡ eqb (numberOf level entry f J) (place level J P)
   shows-number [] v f m P n = refl
   shows-number (i ∷ J) v f m Q n = let (a, P, l, p, e) = mem-combinations level i J Q n in

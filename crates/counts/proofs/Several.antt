@@ -1,14 +1,6 @@
 -- Columns of one level may be left out of the search for the strength: only where all others pass do they count.
-use mathlib.Core.Path.{_≡_, refl, sym, _∙_, ap, subst}
-use mathlib.Core.Bool.{Bool, true, false, cond}
-use mathlib.Core.List.{List, List·Memᴰ}
-use Prim.Native.Nat.{ℕ, _≤_, _<_, min}
-use native.Mathlib.Decide.{decLe}
-use native.Mathlib.Omega.{arith}
-use borrow.Author.Tests.{eqb-true, eqb-false, eq-eqb, ne-eqb}
-use lib.Dec.{T, eqb, ltb}
-use lib.ListN.{length}
-use lib.IntN.{pos}
+use Rattle.exact.proofs.Ground.{true, false, Bool, cond, List, List·Memᴰ, _≡_, _∙_, sym, ap, refl, subst, ℕ, _≤_, _<_, min, decLe, arith, eqb, T, ltb}
+use Rattle.exact.proofs.Ground.{pos, length, ne-eqb, eq-eqb, eqb-true, eqb-false}
 use Rattle.exact.specs.Lists.{largest}
 use Rattle.exact.proofs.Tests.{iff-eq}
 use Rattle.exact.proofs.Lists.{keep-most}
@@ -23,7 +15,7 @@ use Rattle.words.proofs.OneLevel.{words-several}
 use Rattle.counts.specs.Counts.{balanced, strength}
 use Rattle.counts.specs.Numbered.{Columns}
 use Rattle.counts.proofs.Balance.{passed}
-use Rattle.counts.proofs.Even.{AllBelow}
+use Rattle.words.specs.Entries.{AllBelow}
 use Rattle.counts.proofs.Wordless.{NoWord, wordless-balanced}
 
 module _ {R C : Type 0} (level : C → ℕ) (entry : R → C → ℕ) (runs : List R) (cols : List C) (v : AllBelow level entry runs cols) where

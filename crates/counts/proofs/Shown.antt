@@ -1,12 +1,6 @@
 -- A count as a sum over the runs of 1 where a run has the combination and 0 where not; columns and combinations one by one.
-use mathlib.Core.Path.{_≡_, refl, sym, _∙_, ap, subst}
-use mathlib.Core.Bool.{Bool, true, false, cond, _&&_}
-use mathlib.Core.List.{List, [], _∷_, map, List·Memᴰ, List·Memᴰ·head, List·Memᴰ·tail}
-use mathlib.Core.List.{Memᴰ·map, Memᴰ·append-left, Memᴰ·append-right}
-use Prim.Native.Nat.{ℕ, suc, _<_, zero-le}
-use native.Mathlib.Omega.{arith}
-use lib.Dec.{eqb}
-use lib.IntN.{ℤ, pos, _+ℤ_, _*ℤ_}
+use Rattle.exact.proofs.Ground.{true, false, Bool, cond, _&&_, List, [], _∷_, map, List·Memᴰ, List·Memᴰ·head, List·Memᴰ·tail, Memᴰ·append-left}
+use Rattle.exact.proofs.Ground.{Memᴰ·append-right, Memᴰ·map, _≡_, _∙_, sym, ap, refl, subst, ℕ, _<_, suc, zero-le, arith, eqb, pos, ℤ, _*ℤ_, _+ℤ_}
 use Rattle.exact.specs.Lists.{each, sum}
 use Rattle.exact.proofs.Numbers.{from-mem}
 use Rattle.exact.proofs.Ring.{one-*}

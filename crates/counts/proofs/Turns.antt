@@ -1,17 +1,11 @@
 -- A turn of each loop: one column more, one run more, one counter or set passed.
-use mathlib.Core.Path.{_≡_, refl, sym, _∙_, ap, subst, fun-ext}
-use mathlib.Core.Bool.{Bool, true, false, cond, _&&_}
-use mathlib.Core.List.{List, [], _∷_, _++_, map, map-append, List·Memᴰ, List·Memᴰ·head, List·Memᴰ·tail}
-use mathlib.Core.List.{List·Memᴰ·eq-of-singleton}
-use Prim.Native.Nat.{ℕ, zero, suc, _+_, _-_, _*_, _≤_, _<_, min}
-use native.Mathlib.Nat.{zero-add, mul-assoc, mul-pos, mul-le-mul-left, le-refl, min-eq-right}
-use native.Mathlib.Numerals.{add-one}
-use native.Mathlib.Decide.{ℕ-discrete}
-use native.Mathlib.Omega.{arith}
-use borrow.Author.Tests.{eq-eqb, ne-eqb}
-use lib.Dec.{eqb}
-use lib.ListN.{length, getD, take, drop, set, length-set, drop-of-length-le}
-use lib.Seq.{take-suc, drop-cons, take-at, getD-set-same, getD-set-other, ext-getD}
+use mathlib.Core.List.{map-append}
+use native.Mathlib.Nat.{mul-assoc, mul-le-mul-left, min-eq-right}
+use Rattle.exact.proofs.Ground.{true, false, Bool, cond, _&&_, List, [], _∷_, map, _++_, List·Memᴰ, List·Memᴰ·head, List·Memᴰ·tail}
+use Rattle.exact.proofs.Ground.{List·Memᴰ·eq-of-singleton, _≡_, _∙_, sym, ap, refl, subst, fun-ext, ℕ, _≤_, _<_, _-_, _+_, _*_, suc, zero, min}
+use Rattle.exact.proofs.Ground.{ℕ-discrete, zero-add, mul-pos, le-refl, add-one, arith, eqb, drop-of-length-le, length, getD, take, drop, set}
+use Rattle.exact.proofs.Ground.{length-set, take-at, take-suc, drop-cons, ext-getD, ne-eqb, eq-eqb}
+use lib.Seq.{getD-set-same, getD-set-other}
 use Rattle.exact.specs.Lists.{from, filledTo, all, alike, count, largest}
 use Rattle.exact.proofs.Numbers.{from-add, map-from-at}
 use Rattle.exact.proofs.Rooms.{length-numbered}

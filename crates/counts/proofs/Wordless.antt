@@ -1,14 +1,8 @@
 -- Every t columns are even exactly where the words of length 1 to t are 0; so the resolution is the strength and one.
-use mathlib.Core.Path.{_≡_, refl, sym, _∙_, ap, subst}
-use mathlib.Core.List.{List, [], _∷_, List·Memᴰ, List·Memᴰ·head, List·Memᴰ·tail}
+use Rattle.exact.proofs.Ground.{List, [], _∷_, List·Memᴰ, List·Memᴰ·head, List·Memᴰ·tail, _≡_, _∙_, sym, ap, refl, subst, ℕ, _≤_, _<_, _-_, _*_, suc}
+use Rattle.exact.proofs.Ground.{decLt, mul-pos, arith, T, pos, ℤ, natAbs, _*ℤ_, length}
 use mathlib.Core.Logic.{_↔_}
-use Prim.Native.Nat.{ℕ, suc, _*_, _-_, _≤_, _<_}
-use native.Mathlib.Nat.{mul-pos, zero-lt-suc}
-use native.Mathlib.Decide.{decLt}
-use native.Mathlib.Omega.{arith}
-use lib.Dec.{T}
-use lib.ListN.{length}
-use lib.IntN.{ℤ, pos, natAbs, _*ℤ_}
+use native.Mathlib.Nat.{zero-lt-suc}
 use Rattle.exact.specs.Lists.{sum, prod}
 use Rattle.exact.proofs.Ring.{ring, *-one, one-*}
 use Rattle.exact.proofs.Tests.{all-mem, mem-all}
@@ -23,7 +17,8 @@ use Rattle.counts.proofs.Numbered.{mem-combinations}
 use Rattle.counts.specs.Strength.{Even, IsStrength}
 use Rattle.counts.proofs.Balance.{even→Even, Even→even}
 use Rattle.counts.proofs.Shown.{combinations-mem, has, has-nil, has-cons, tally-sum}
-use Rattle.counts.proofs.Even.{AllBelow, Vanish, Vanish⁺, Scaled, sum-zero, cancel-eq, zero→vanish, vanish→zero, vanish→scaled, scaled→vanish}
+use Rattle.words.specs.Entries.{AllBelow}
+use Rattle.counts.proofs.Even.{Vanish, Vanish⁺, Scaled, sum-zero, cancel-eq, zero→vanish, vanish→zero, vanish→scaled, scaled→vanish}
 
 out : (w S d h : ℤ) → (w *ℤ (S *ℤ d)) *ℤ h ≡ S *ℤ (w *ℤ (d *ℤ h))
 out w S d h = simp ring
@@ -33,7 +28,7 @@ into S p x = simp ring
 
 module _ {R C : Type 0} (level : C → ℕ) (entry : R → C → ℕ) (runs : List R) where
   -- the product of the levels
-  abbrev levels : List C → ℤ
+  abbrev pub levels : List C → ℤ
   levels K = prod K (λ i. pos (level i))
 
   -- one column more: its level comes out as a factor
@@ -47,7 +42,7 @@ module _ {R C : Type 0} (level : C → ℕ) (entry : R → C → ℕ) (runs : Li
 
   -- ---- in terms of counts
 
-  scaled→counts : (K : List C) (w : R → ℤ) (t : ℤ) → Scaled level entry runs K w t → (P : List ℕ) → List·Memᴰ P (combinations level K) →
+  pub scaled→counts : (K : List C) (w : R → ℤ) (t : ℤ) → Scaled level entry runs K w t → (P : List ℕ) → List·Memᴰ P (combinations level K) →
       levels K *ℤ sum runs (λ f. w f *ℤ has entry f K P) ≡ t
   scaled→counts [] w t s P m = rw (one-* (sum runs (λ f. w f *ℤ has entry f [] P))) (simp (has-nil, *-one) s)
   scaled→counts (i ∷ K) w t s P m =
@@ -65,7 +60,7 @@ module _ {R C : Type 0} (level : C → ℕ) (entry : R → C → ℕ) (runs : Li
       (counts→scaled K (λ f. w f *ℤ (pos (level i) *ℤ agree (entry f i) a)) (pos (level i) *ℤ c)
       (λ P m. sum-has i K w a P ∙ ap (λ z. pos (level i) *ℤ z) (h (a ∷ P) (combinations-mem level i K a P l m))))
 
-  levels-pos : (K : List C) → AllBelow level entry runs K → (p : ℕ) × (0 < p) × (pos p ≡ levels K)
+  pub levels-pos : (K : List C) → AllBelow level entry runs K → (p : ℕ) × (0 < p) × (pos p ≡ levels K)
   levels-pos [] v = (1, zero-lt-suc 0, refl)
   levels-pos (i ∷ K) v = let (p, h, e) = levels-pos K (λ k n. v k (List·Memᴰ·tail n)) in
       (level i * p, mul-pos (v i (List·Memᴰ·head refl) .0) h, ap (λ z. pos (level i) *ℤ z) e)

@@ -1,5 +1,5 @@
 // Strength, found by counting level combinations (document 01, "Strength, resolution, projections").
-pub mod inner;
+pub mod routines;
 
 use rules::Refusal;
 ghost use mathlib.Core.Path.{_≡_};
@@ -18,8 +18,8 @@ pub fn strength(levels: &[u8], table: &[u8]) -> StrengthAnswer
     ensures { λ r.
         ⌜ (let p = plan (now (levels .entry)) (now (table .entry)) in r ≡ strengthAnswer p (everyRun p) (ofPlan p)) ⌝ }
 {
-    let checked = plan::inner::checked_runs(levels, table);
+    let checked = plan::routines::checked_runs(levels, table);
     let runs = checked.runs;
     let count = checked.count;
-    inner::strength_answer(checked.refused, levels, table, &runs[..count])
+    routines::strength_answer(checked.refused, levels, table, &runs[..count])
 }

@@ -1,13 +1,9 @@
 -- What the machine reads back from a number's bits is the number, where it fits: |z| below 2 ^ 63 is enough for every need.
-use mathlib.Core.Path.{_≡_}
-use Prim.Native.Nat.{ℕ, _≤_, _<_, _^_}
-use native.Mathlib.Nat.{le-refl, lt-of-le-of-lt}
-use native.Mathlib.Omega.{arith}
-use lib.Dec.{T, lit<}
-use lib.IntN.{ℤ, pos, negsuc, natAbs}
-use lib.Signed.{mag, nonNeg, yes-nonNeg, pos-natAbs, natAbs-le, _≤ℤ_}
-use mir.Syntax.{w64}
-use mir.Val.{Fits, SFits, toZ, ofZ}
+use Rattle.exact.proofs.Ground.{_≡_, ℕ, _≤_, _<_, _^_, le-refl, arith, T, pos, ℤ, natAbs, negsuc, _≤ℤ_, w64, toZ, ofZ}
+use native.Mathlib.Nat.{lt-of-le-of-lt}
+use lib.Dec.{lit<}
+use lib.Signed.{mag, nonNeg, yes-nonNeg, pos-natAbs, natAbs-le}
+use mir.Val.{Fits, SFits}
 use mir.ValLaws.{toZ-pos, toZ-ofZ}
 
 mag-le : (z : ℤ) → mag z ≤ natAbs z

@@ -1,13 +1,9 @@
 -- The greatest common divisor of the definition, the largest number that divides both, is the one that every common divisor divides.
-use mathlib.Core.Path.{_≡_, sym, subst}
-use mathlib.Core.Logic.{_⊎_, inl, inr}
-use Prim.Native.Nat.{ℕ, zero, suc, _*_, _/_, _%_, _≤_, _<_, _∣_, max}
+use Rattle.exact.proofs.Ground.{_⊎_, inl, inr, _≡_, sym, subst, ℕ, _≤_, _<_, _*_, suc, zero, _/_, _%_, le-trans, arith, eqb, T, eqb→eq, eq-eqb}
+use Prim.Native.Nat.{_∣_, max}
 use native.Mathlib.Nat.{mod-lt, dvd-mod-iff, dvd-refl, dvd-zero, dvd-mul-left, dvd-antisymm, le-of-dvd, eq-zero-or-pos, pos-of-dvd-of-pos}
 use native.Mathlib.Nat.{mod-eq-zero-of-dvd, dvd-of-mod-eq-zero, mul-dvd-mul-right, dvd-of-mul-dvd-mul-right, div-mul-cancel, eq-zero-of-zero-dvd}
-use native.Mathlib.Nat.{le-max-left, le-max-right, le-trans, max-le}
-use native.Mathlib.Omega.{arith}
-use borrow.Author.Tests.{eq-eqb}
-use lib.Dec.{T, eqb, eqb→eq}
+use native.Mathlib.Nat.{le-max-left, le-max-right, max-le}
 use Rattle.exact.specs.Fractions.{dividesBoth, gcd}
 use Rattle.exact.proofs.Tests.{both, join, true-is}
 use Rattle.exact.proofs.Searches.{IsLargest, largest-is, largest-unique}

@@ -1,8 +1,6 @@
 -- The comparison of fractions is lawful.
-use mathlib.Core.Path.{_≡_, refl, sym, ap}
-use Prim.Native.Nat.{ℕ, _*_, _<_}
+use Rattle.exact.proofs.Ground.{_≡_, sym, ap, refl, ℕ, _<_, _*_, arith}
 use native.Mathlib.Nat.{lt-of-mul-lt-mul-right, mul-lt-mul-of-pos-right, eq-of-mul-eq-mul-right}
-use native.Mathlib.Omega.{arith}
 use Rattle.exact.specs.Fractions.{smaller, smallerFraction}
 use Rattle.exact.specs.Lawful.{opposite, Lawful}
 use Rattle.exact.proofs.Verdicts.{smaller-ind, smaller-lt, smaller-gt, smaller-eq, lt-smaller, eq-smaller}

@@ -1,3 +1,4 @@
+pub mod Ground
 pub mod Ring
 pub mod Order
 pub mod Tests

@@ -1,11 +1,7 @@
 -- Lists, whatever they hold: what `map`, `keep`, `count` and `getD` do to a part, to one member more, or to the members one by one.
-use mathlib.Core.Path.{_≡_, refl, sym, _∙_, ap, ap₂, subst, fun-ext}
-use mathlib.Core.Bool.{Bool, true, false, cond, _&&_}
-use mathlib.Core.List.{List, [], _∷_, _++_, map, append-assoc, append-nil, List·Memᴰ, List·Memᴰ·head, List·Memᴰ·tail}
-use Prim.Native.Nat.{ℕ, zero, suc, _+_, _-_, _≤_, _<_}
-use native.Mathlib.Omega.{arith}
-use lib.ListN.{length, getD, set, take, drop}
-use lib.Seq.{drop-cons}
+use Rattle.exact.proofs.Ground.{true, false, Bool, cond, _&&_, List, [], _∷_, map, _++_, List·Memᴰ, List·Memᴰ·head, List·Memᴰ·tail}
+use Rattle.exact.proofs.Ground.{append-assoc, append-nil, _≡_, _∙_, sym, ap, refl, ap₂, subst, fun-ext, ℕ, _≤_, _<_, _-_, _+_, suc, zero}
+use Rattle.exact.proofs.Ground.{arith, length, getD, take, drop, set, drop-cons}
 use Rattle.exact.specs.Lists.{keep, count}
 
 module _ {A : Type 0} where

@@ -1,13 +1,7 @@
 -- The members of a list: those of a part of it, of what is kept of it, and of a list of numbers as its own test finds them.
-use mathlib.Core.Path.{_≡_, refl, _∙_, ap}
-use mathlib.Core.Bool.{Bool, true, false, cond, _&&_, _||_}
-use mathlib.Core.Logic.{_⊎_, inl, inr}
-use mathlib.Core.List.{List, [], _∷_, List·Memᴰ, List·Memᴰ·head, List·Memᴰ·tail, List·Memᴰ·not-nil, List·Memᴰ·cases-cons}
-use Prim.Native.Nat.{ℕ, zero, suc, _<_}
-use native.Mathlib.Omega.{arith}
-use borrow.Author.Tests.{eq-eqb, eqb-true}
-use lib.Dec.{eqb}
-use lib.ListN.{length, getD, take}
+use Rattle.exact.proofs.Ground.{true, false, Bool, cond, _&&_, _||_, List, [], _∷_, List·Memᴰ, List·Memᴰ·head, List·Memᴰ·tail}
+use Rattle.exact.proofs.Ground.{List·Memᴰ·not-nil, List·Memᴰ·cases-cons, _⊎_, inl, inr, _≡_, _∙_, ap, refl, ℕ, _<_, suc, zero, arith, eqb}
+use Rattle.exact.proofs.Ground.{length, getD, take, eq-eqb, eqb-true}
 use Rattle.exact.specs.Lists.{all, keep, holds}
 use Rattle.exact.proofs.Tests.{clash}
 

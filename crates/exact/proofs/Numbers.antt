@@ -1,11 +1,8 @@
 -- The numbers in a row, and where a row of a flat table lies.
-use mathlib.Core.Path.{_≡_, refl, sym, _∙_, ap, subst, fun-ext}
-use mathlib.Core.Logic.{_⊎_, inl, inr}
-use mathlib.Core.List.{List, [], _∷_, _++_, map, List·Memᴰ, List·Memᴰ·head, List·Memᴰ·tail, List·Memᴰ·not-nil, List·Memᴰ·cases-cons}
-use Prim.Native.Nat.{ℕ, zero, suc, _+_, _*_, _≤_, _<_}
-use native.Mathlib.Nat.{eq-or-lt-of-le, add-zero, zero-add, suc-add, add-suc, suc-mul, mul-le-mul, mul-le-mul-right}
-use native.Mathlib.Omega.{arith}
-use lib.ListN.{length, getD, length-map}
+use Rattle.exact.proofs.Ground.{List, [], _∷_, map, _++_, List·Memᴰ, List·Memᴰ·head, List·Memᴰ·tail, List·Memᴰ·not-nil, List·Memᴰ·cases-cons}
+use Rattle.exact.proofs.Ground.{_⊎_, inl, inr, _≡_, _∙_, sym, ap, refl, subst, fun-ext, ℕ, _≤_, _<_, _+_, _*_, suc, zero, zero-add, mul-le-mul}
+use Rattle.exact.proofs.Ground.{add-zero, mul-le-mul-right, suc-mul, eq-or-lt-of-le, arith, length, getD, length-map}
+use native.Mathlib.Nat.{suc-add, add-suc}
 use Rattle.exact.specs.Lists.{from}
 
 pub length-from : (a n : ℕ) → length (from a n) ≡ n

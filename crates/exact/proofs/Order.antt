@@ -1,14 +1,11 @@
 -- The order of ℤ and the absolute value.
-use mathlib.Core.Path.{_≡_, refl, sym, _∙_, ap, subst}
-use mathlib.Core.Bool.{Bool, true, false, not, cond}
-use mathlib.Core.Logic.{_⊎_, inl, inr}
-use Prim.Native.Nat.{ℕ, zero, suc, _+_, _*_, _-_, _≤_, _<_, zero-le}
-use native.Mathlib.Nat.{le-refl, mul-pos, mul-le-mul, zero-lt-suc, le-antisymm}
-use native.Mathlib.Decide.{decLe}
-use native.Mathlib.Omega.{arith}
-use lib.Dec.{T, ltb, ltb→lt, nltb→le, leb→le, le→leb}
-use lib.IntN.{ℤ, pos, negsuc, negℤ, subℕ, natAbs, _+ℤ_, _-ℤ_, _*ℤ_, +ℤ-assoc}
-use lib.Signed.{_≤ℤ_, leZ, leZ-yes, ≤ℤ-refl}
+use Rattle.exact.proofs.Ground.{true, false, Bool, cond, not, _⊎_, inl, inr, _≡_, _∙_, sym, ap, refl, subst, ℕ, _≤_, _<_, _-_, _+_, _*_, suc}
+use Rattle.exact.proofs.Ground.{zero, zero-le, decLe, mul-le-mul, mul-pos, le-refl, arith, T, ltb, ltb→lt, leb→le, pos, ℤ, natAbs, _*ℤ_, _+ℤ_}
+use Rattle.exact.proofs.Ground.{_-ℤ_, negsuc, negℤ, +ℤ-assoc, _≤ℤ_}
+use native.Mathlib.Nat.{zero-lt-suc, le-antisymm}
+use lib.Dec.{nltb→le, le→leb}
+use lib.IntN.{subℕ}
+use lib.Signed.{leZ, leZ-yes, ≤ℤ-refl}
 use Rattle.exact.proofs.Ring.{ring, *-+}
 
 pub cond-ind : (c : Bool) (x y : ℤ) (P : ℤ → Type 0) → (T c → P x) → (T (not c) → P y) → P (cond c x y)

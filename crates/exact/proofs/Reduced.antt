@@ -1,10 +1,8 @@
 -- A reduced fraction has the value of a / b and no smaller form, and fractions of one value have one reduced form.
-use mathlib.Core.Path.{_≡_, sym, _∙_, subst}
-use Prim.Native.Nat.{ℕ, _*_, _/_, _≤_, _<_, _∣_}
+use Rattle.exact.proofs.Ground.{_≡_, _∙_, sym, subst, ℕ, _≤_, _<_, _*_, _/_, decLt, arith}
+use Prim.Native.Nat.{_∣_}
 use native.Mathlib.Nat.{mul-comm, one-mul, eq-of-mul-eq-mul-right, dvd-mul-right, pos-of-dvd-of-pos}
 use native.Mathlib.Nat.{div-mul-cancel, div-mul-le-self, le-div-iff-mul-le, div-le-self, div-self, zero-div, mul-div-mul-right}
-use native.Mathlib.Decide.{decLt}
-use native.Mathlib.Omega.{arith}
 use Rattle.exact.specs.Fractions.{gcd, zeroFraction, reduced}
 use Rattle.exact.proofs.Divisors.{gcd-is, gcd-*, gcd-pos, gcd-zero-left}
 

@@ -1,8 +1,8 @@
 -- ℤ is a commutative ring: what lib.IntN does not say of its sum and product, and `simp ring`, which closes ring identities.
-use mathlib.Core.Path.{_≡_, sym, _∙_, ap}
-use Prim.Native.Nat.{zero, suc}
-use lib.IntN.{ℤ, pos, negsuc, one, negℤ, _+ℤ_, _*ℤ_, +ℤ-assoc, +ℤ-comm, +ℤ-idl, +ℤ-idr, +ℤ-invr, +ℤ-invl}
-use lib.IntN.{*ℤ-comm, *ℤ-one, *ℤ-zero, sucℤ-*ℤ, predℤ-*ℤ, sucℤ-+ℤ, predℤ-+ℤ, zero-*ℤ, negℤ-+ℤ, negℤ-negℤ}
+use Rattle.exact.proofs.Ground.{_≡_, _∙_, sym, ap, suc, zero, pos, ℤ, _*ℤ_, _+ℤ_, negsuc, negℤ, +ℤ-idl, +ℤ-idr, +ℤ-comm, *ℤ-zero, zero-*ℤ}
+use Rattle.exact.proofs.Ground.{+ℤ-assoc}
+use lib.IntN.{one, +ℤ-invr, +ℤ-invl}
+use lib.IntN.{*ℤ-comm, *ℤ-one, sucℤ-*ℤ, predℤ-*ℤ, sucℤ-+ℤ, predℤ-+ℤ, negℤ-+ℤ, negℤ-negℤ}
 
 -- a + (b + c) is b + (a + c)
 pub +-swap : (a b c : ℤ) → a +ℤ (b +ℤ c) ≡ b +ℤ (a +ℤ c)

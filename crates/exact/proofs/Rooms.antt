@@ -1,12 +1,8 @@
 -- A loop that fills a room from the front, one store a turn: with g 0, g 1, .. or with the members of a list.
-use mathlib.Core.Path.{_≡_, refl, sym, ap, _∙_}
-use mathlib.Core.List.{List, [], _∷_, _++_, map, append-nil, append-assoc}
-use Prim.Native.Nat.{ℕ, zero, suc, _+_, _-_, _≤_, _<_}
-use native.Mathlib.Nat.{zero-add}
-use native.Mathlib.Numerals.{add-one}
-use native.Mathlib.Omega.{arith}
-use lib.ListN.{length, getD, set, take, drop, replicate, length-append, length-drop, length-map, length-replicate}
-use lib.Seq.{set-at, take-at, getD-at, drop-cons, drop-length, take-suc, append-snoc, length-take-le, take-all}
+use Rattle.exact.proofs.Ground.{List, [], _∷_, map, _++_, append-assoc, append-nil, _≡_, _∙_, sym, ap, refl, ℕ, _≤_, _<_, _-_, _+_, suc, zero}
+use Rattle.exact.proofs.Ground.{zero-add, add-one, arith, length, getD, take, drop, replicate, set, length-append, length-map, length-drop}
+use Rattle.exact.proofs.Ground.{length-replicate, length-take-le, take-at, take-suc, drop-cons, take-all, drop-length, append-snoc}
+use lib.Seq.{set-at, getD-at}
 use Rattle.exact.specs.Lists.{from, filledTo, into}
 use Rattle.exact.proofs.Numbers.{length-from, from-snoc}
 

@@ -1,11 +1,7 @@
 -- The searches find what they look for, and a loop's turns of them.
-use mathlib.Core.Path.{_≡_, refl, _∙_, ap, subst}
-use mathlib.Core.Bool.{Bool, true, false, cond}
-use Prim.Native.Nat.{ℕ, zero, suc, _+_, _-_, _≤_, _<_}
-use native.Mathlib.Numerals.{add-one}
-use native.Mathlib.Decide.{decLt}
-use native.Mathlib.Omega.{arith}
-use lib.Dec.{T, ltb, ltb→lt, nltb→le}
+use Rattle.exact.proofs.Ground.{true, false, Bool, cond, _≡_, _∙_, ap, refl, subst, ℕ, _≤_, _<_, _-_, _+_, suc, zero, decLt, add-one, arith, T}
+use Rattle.exact.proofs.Ground.{ltb, ltb→lt}
+use lib.Dec.{nltb→le}
 use Rattle.exact.specs.Lists.{first, largest}
 
 -- ---- the first that passes

@@ -1,9 +1,8 @@
 -- Sums and products over a list, in ℤ. A law's name says what it is of: `sum-++` of an append, `sum-swap` of two sums, `sum-at` of one member.
-use mathlib.Core.Path.{_≡_, refl, sym, _∙_, ap, fun-ext}
-use mathlib.Core.Bool.{Bool, true, false, cond}
-use mathlib.Core.List.{List, [], _∷_, _++_, map, List·Memᴰ, List·Memᴰ·head, List·Memᴰ·tail, List·Memᴰ·not-nil}
-use lib.ListN.{length}
-use lib.IntN.{ℤ, pos, _+ℤ_, _*ℤ_, +ℤ-assoc, +ℤ-comm, +ℤ-idl, *ℤ-zero, zero-*ℤ, sucℤ-*ℤ}
+use Rattle.exact.proofs.Ground.{true, false, Bool, cond, List, [], _∷_, map, _++_, List·Memᴰ, List·Memᴰ·head, List·Memᴰ·tail}
+use Rattle.exact.proofs.Ground.{List·Memᴰ·not-nil, _≡_, _∙_, sym, ap, refl, fun-ext, pos, ℤ, _*ℤ_, _+ℤ_, +ℤ-idl, +ℤ-comm, *ℤ-zero, zero-*ℤ}
+use Rattle.exact.proofs.Ground.{+ℤ-assoc, length}
+use lib.IntN.{sucℤ-*ℤ}
 use Rattle.exact.proofs.Ring.{ring, *-+, *-assoc, one-*}
 use Rattle.exact.specs.Lists.{sum, prod, keep}
 

@@ -1,8 +1,6 @@
 -- What a test tells, for `&&`, `||` and `all`. (borrow.Author.Tests has the tests on numbers.)
-use mathlib.Core.Path.{_≡_, refl, sym, subst}
-use mathlib.Core.Bool.{Bool, true, false, not, _&&_, _||_}
-use mathlib.Core.List.{List, [], _∷_, List·Memᴰ, List·Memᴰ·head, List·Memᴰ·tail, List·Memᴰ·not-nil}
-use lib.Dec.{T}
+use Rattle.exact.proofs.Ground.{true, false, Bool, not, _&&_, _||_, List, [], _∷_, List·Memᴰ, List·Memᴰ·head, List·Memᴰ·tail}
+use Rattle.exact.proofs.Ground.{List·Memᴰ·not-nil, _≡_, sym, refl, subst, T}
 use Rattle.exact.specs.Lists.{all}
 
 pub is-true : (b : Bool) → T b → b ≡ true

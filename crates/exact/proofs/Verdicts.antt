@@ -1,11 +1,9 @@
 -- The smaller number is better, and the smaller fraction: by the quotients, and where they are equal by what is left of the numerators.
-use mathlib.Core.Path.{_≡_, refl, sym, _∙_, ap, subst}
-use mathlib.Core.Bool.{Bool, true, false, not, cond}
-use Prim.Native.Nat.{ℕ, _+_, _*_, _-_, _/_, _%_, _≤_, _<_, _^_}
-use native.Mathlib.Nat.{le-antisymm, add-mul, mul-right-comm, mul-le-mul-right, mul-lt-mul-of-pos-right}
+use Rattle.exact.proofs.Ground.{true, false, Bool, cond, not, _≡_, _∙_, sym, ap, refl, subst, ℕ, _≤_, _<_, _-_, _+_, _*_, _^_, _/_, _%_}
+use Rattle.exact.proofs.Ground.{mul-le-mul-right, arith, T, ltb, ltb→lt}
+use native.Mathlib.Nat.{le-antisymm, add-mul, mul-right-comm, mul-lt-mul-of-pos-right}
 use native.Mathlib.Nat.{mod-lt, div-add-mod', div-mul-le-self, div-lt-iff-lt-mul}
-use native.Mathlib.Omega.{arith}
-use lib.Dec.{T, ltb, ltb→lt, nltb→le}
+use lib.Dec.{nltb→le}
 use Rattle.exact.specs.declared.fractions.Fraction.{Fraction}
 use Rattle.exact.specs.declared.fractions.Verdict.{Verdict}
 use Rattle.exact.specs.declared.fractions.Verdict.the-variants.{Better, Worse, Equal}

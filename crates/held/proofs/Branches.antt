@@ -1,10 +1,5 @@
 -- The branches of a strike and of a reinstatement, by the fields of the held plan.
-use mathlib.Core.Path.{_≡_, _∙_}
-use mathlib.Core.Bool.{Bool, true, false}
-use Prim.Native.Nat.{ℕ, _≤_, _<_}
-use borrow.Author.Tests.{lt-ltb, le-ltb}
-use lib.ListN.{length, getD}
-use lib.Seq.{getD-take}
+use Rattle.exact.proofs.Ground.{true, false, Bool, _≡_, _∙_, ℕ, _≤_, _<_, length, getD, getD-take, le-ltb, lt-ltb}
 use Rattle.rules.specs.Refusals.{plain, accepted}
 use Rattle.held.specs.declared.Held.{Held}
 use Rattle.held.specs.Held.{IsHeld, marksIn, standingIn, Call, strikes, reinstates, runOf, callChecks, remarked, callAnswer}

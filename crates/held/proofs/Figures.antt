@@ -1,8 +1,5 @@
--- Document 01, "Worked figures": strikes on these plans, from the definitions.
-use mathlib.Core.Path.{_≡_, refl}
-use mathlib.Core.List.{List, [], _∷_, map}
-use lib.IntN.{ℤ, pos}
-use lib.ListN.{take}
+-- Worked figures: strikes and reinstatements, from the definitions. The starred ones of document 01 stand in `planner` Starred.
+use Rattle.exact.proofs.Ground.{List, [], _∷_, map, _≡_, refl, pos, ℤ, take}
 use Rattle.rules.specs.Plan.{Plan, plan}
 use Rattle.rules.specs.Refusals.{firstBadLevel, firstBadEntry}
 use Rattle.words.specs.Words.{score, wordOf, word}
@@ -35,21 +32,14 @@ is q a = record { question = q; answer = a }
 abbrev listed : Plan
 listed = plan (2 ∷ 3 ∷ []) (0 ∷ 0 ∷ 0 ∷ 1 ∷ 1 ∷ 2 ∷ [])
 
--- levels 3,2, one run
-abbrev single : Plan
-single = plan (3 ∷ 2 ∷ []) (2 ∷ 1 ∷ [])
-
 -- no plan: the opening is refused
 abbrev refused : Plan
 refused = plan [] []
 
--- in the paper's order; then a run struck and reinstated, and the refusals of calls on a plan and on the empty plan
+-- a run struck and reinstated, and the refusals of calls on a plan and on the empty plan
 figures : List Figure
 figures =
-    is (words listed (strikes 0 ∷ [])) (pos 2 ∷ pos 6 ∷ [])
-    ∷ is (words listed (strikes 2 ∷ [])) (pos 6 ∷ pos 2 ∷ [])
-    ∷ is (refusedCall single [] (strikes 0)) (pos 10 ∷ [])
-    ∷ is (words listed (strikes 0 ∷ reinstates 0 ∷ [])) (pos 1 ∷ pos 8 ∷ [])
+    is (words listed (strikes 0 ∷ reinstates 0 ∷ [])) (pos 1 ∷ pos 8 ∷ [])
     ∷ is (words listed (strikes 0 ∷ reinstates 0 ∷ strikes 2 ∷ [])) (pos 6 ∷ pos 2 ∷ [])
     ∷ is (refusedCall listed [] (strikes 3)) (pos 8 ∷ [])
     ∷ is (refusedCall listed [] (reinstates 0)) (pos 9 ∷ [])

@@ -1,14 +1,8 @@
 -- Runs are struck and reinstated, refused calls among them (demand 3).
-use mathlib.Core.Path.{_≡_, refl, sym, _∙_, ap, ap₂, subst}
-use mathlib.Core.Bool.{Bool, true, false, not, cond}
-use mathlib.Core.List.{List, [], _∷_, List·Memᴰ}
-use mathlib.Core.Option.{Option, none, some}
-use Prim.Native.Nat.{ℕ, _-_, _<_}
-use native.Mathlib.Omega.{arith}
-use borrow.Author.Tests.{not-true, lt-ltb, le-ltb, eqb-true, eqb-false}
-use lib.Dec.{eqb}
-use lib.ListN.{length, getD, set, replicate, length-append, length-set}
-use lib.Seq.{ext-getD, getD-set-same, getD-set-other, set-set, set-comm}
+use Rattle.exact.proofs.Ground.{true, false, Bool, cond, not, List, [], _∷_, List·Memᴰ, none, _≡_, _∙_, sym, ap, refl, ap₂, subst, ℕ, _<_, _-_, arith}
+use Rattle.exact.proofs.Ground.{eqb, length, getD, replicate, set, length-append, length-set, ext-getD, le-ltb, lt-ltb, eqb-true, eqb-false, not-true}
+use mathlib.Core.Option.{Option, some}
+use lib.Seq.{getD-set-same, getD-set-other, set-set, set-comm}
 use Rattle.exact.proofs.Tests.{clash}
 use Rattle.rules.specs.Plan.{Plan, columns, runs, mostRuns}
 use Rattle.rules.specs.Refusals.{refuses, accepted}

@@ -1,17 +1,8 @@
 -- What a call on a held plan lends to the routines below: parts of its arrays, the standing runs, and how large their numbers are.
-use mathlib.Core.Path.{_≡_, refl, sym, _∙_, ap}
-use mathlib.Core.Bool.{Bool, true, false}
-use mathlib.Core.List.{List, [], _∷_}
-use Prim.Native.Nat.{ℕ, suc, _*_, _-_, _≤_, _<_, _^_}
-use native.Mathlib.Omega.{arith}
-use borrow.Author.Tests.{le-ltb, ne-eqb}
-use lib.IntN.{ℤ, pos, natAbs}
-use lib.ListN.{length, getD, take}
-use mir.Syntax.{w64}
-use mir.Val.{toZ, ofZ}
+use Rattle.exact.proofs.Ground.{true, false, Bool, List, [], _∷_, _≡_, _∙_, sym, ap, refl, ℕ, _≤_, _<_, _-_, _*_, suc, _^_, arith, pos, ℤ, natAbs}
+use Rattle.exact.proofs.Ground.{length, getD, take, length-take-le, getD-take, ne-eqb, le-ltb, w64, toZ, ofZ}
 use Rattle.exact.proofs.Bits.{fits, back}
 use Rattle.exact.proofs.Rooms.{filled-length, filled-front}
-use lib.Seq.{length-take-le, getD-take}
 use Rattle.rules.specs.Plan.{Plan, plan, columns, level, entry, everyColumn, mostRuns}
 use Rattle.rules.specs.Refusals.{Check, refusal, plain, unless, orElse, ofHeld, tooFew}
 use Rattle.rules.proofs.Ranges.{unless-accepted}
@@ -23,7 +14,7 @@ use Rattle.words.proofs.Totals.{by-length-row}
 use Rattle.words.proofs.OfPlan.{sound-levels, row-small, word-small, diagonal-small}
 use Rattle.words.proofs.Answered.{word-at}
 use Rattle.held.specs.declared.Held.{Held}
-use Rattle.held.specs.declared.inner.Standing.{Standing}
+use Rattle.held.specs.declared.routines.Standing.{Standing}
 use Rattle.held.specs.Held.{IsHeld, none-held, held, heldOf, standing, marksIn, planIn, standingIn, ofStanding, remarked}
 use Rattle.held.specs.Given.{standingOf, Changes, factorOf, changed}
 use Rattle.held.proofs.History.{words-standing}

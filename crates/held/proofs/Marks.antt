@@ -1,16 +1,11 @@
 -- A call on a held plan is a call on its marks: what it accepts, and what it leaves.
-use mathlib.Core.Path.{_≡_, refl, sym, _∙_, ap, ap₂}
-use mathlib.Core.Bool.{Bool, true, false, not, cond}
-use mathlib.Core.List.{List, _++_}
-use Prim.Native.Nat.{ℕ, _+_, _-_, _*_, _<_}
-use native.Mathlib.Omega.{arith}
-use borrow.Author.Tests.{ltb-true, ltb-false, le-ltb}
-use lib.Dec.{ltb}
-use lib.ListN.{length, getD, set, replicate, length-set}
-use lib.Seq.{take-at, set-append-left}
+use Rattle.exact.proofs.Ground.{true, false, Bool, cond, not, List, _++_, _≡_, _∙_, sym, ap, refl, ap₂, ℕ, _<_, _-_, _+_, _*_, arith, ltb, length}
+use Rattle.exact.proofs.Ground.{getD, replicate, set, length-set, take-at, le-ltb, ltb-false}
+use borrow.Author.Tests.{ltb-true}
+use lib.Seq.{set-append-left}
 use Rattle.exact.specs.Lists.{filledTo}
 use Rattle.exact.proofs.Tests.{clash}
-use Rattle.rules.specs.Plan.{Plan, plan, columns, runs, mostColumns, mostRuns}
+use Rattle.rules.specs.Plan.{Plan, plan, columns, runs, mostColumns, mostRuns, mostEntries}
 use Rattle.rules.specs.Refusals.{refusal, refuses, unless, plain, accepted}
 use Rattle.rules.specs.declared.Refusal.{Refusal}
 use Rattle.plan.specs.Good.{Good}
@@ -108,7 +103,7 @@ module _ (p : Plan) (G : Good p) (marks : List Bool) (size : length marks ≡ ru
   plan-in =
       ap₂ plan
       (take-at (p .levels) (replicate (mostColumns - columns p) 0) (columns p) refl)
-      (take-at (p .table) (replicate (6144 - length (p .table)) 0) (runs p * columns p) (G .size))
+      (take-at (p .table) (replicate (mostEntries - length (p .table)) 0) (runs p * columns p) (G .size))
 
   remarked-held : (f : ℕ) (b : Bool) → f < length marks → remarked (heldOf p marks) f b ≡ heldOf p (set marks f b)
   unfolding remarked heldOf
@@ -117,7 +112,7 @@ module _ (p : Plan) (G : Good p) (marks : List Bool) (size : length marks ≡ ru
         columns = columns p;
         runs = runs p;
         levels = filledTo mostColumns 0 (p .levels);
-        entries = filledTo 6144 0 (p .table);
+        entries = filledTo mostEntries 0 (p .table);
         marks = x;
         words = y;
       })

@@ -1,10 +1,5 @@
 -- What an opening gives is a held plan, with all its runs standing.
-use mathlib.Core.Path.{_≡_, refl}
-use mathlib.Core.Bool.{Bool, true, false, cond}
-use mathlib.Core.List.{List}
-use Prim.Native.Nat.{_-_}
-use borrow.Author.Tests.{eqb-true, eq-eqb, ne-eqb, not-false}
-use lib.ListN.{replicate, length-replicate}
+use Rattle.exact.proofs.Ground.{true, false, Bool, cond, List, _≡_, refl, _-_, replicate, length-replicate, ne-eqb, eq-eqb, eqb-true, not-false}
 use Rattle.exact.proofs.Numbers.{length-from}
 use Rattle.rules.specs.Plan.{Plan, runs}
 use Rattle.rules.specs.Refusals.{refusal, refuses, planChecks}

@@ -1,12 +1,8 @@
 -- What a function may use of a held plan: its sizes, and that its standing runs are sound.
-use mathlib.Core.Path.{_≡_, refl}
-use mathlib.Core.List.{List, [], _∷_, List·Memᴰ, List·Memᴰ·not-nil}
-use Prim.Native.Nat.{ℕ, _*_, _≤_, _<_}
-use native.Mathlib.Omega.{arith}
-use lib.ListN.{length, length-replicate}
+use Rattle.exact.proofs.Ground.{List, [], _∷_, List·Memᴰ, List·Memᴰ·not-nil, _≡_, refl, ℕ, _≤_, _<_, _*_, arith, length, length-replicate}
 use Rattle.exact.proofs.Numbers.{length-from, mul-below}
 use Rattle.exact.proofs.Rooms.{filled-length}
-use Rattle.rules.specs.Plan.{Plan, columns, runs, everyRun}
+use Rattle.rules.specs.Plan.{Plan, columns, runs, everyRun, mostEntries}
 use Rattle.plan.specs.Good.{Sound}
 use Rattle.plan.proofs.Sound.{run-mem, good-sound}
 use Rattle.words.proofs.OfPlan.{sound-run}
@@ -31,9 +27,9 @@ some-sound p rs ss S fewer among = record {
 pub record Sized (h : Held) : Type 0 where
   pub columns-high : h .columns ≤ 24
   pub runs-high : h .runs ≤ 256
-  pub table-high : h .runs * h .columns ≤ 6144
+  pub table-high : h .runs * h .columns ≤ mostEntries
   pub levels-room : length (h .levels) ≡ 24
-  pub entries-room : length (h .entries) ≡ 6144
+  pub entries-room : length (h .entries) ≡ mostEntries
   pub marks-held : length (marksIn h) ≡ h .runs
   pub sound : Sound (planIn h) (standingIn h)
   pub each : (f : ℕ) → f < h .runs → Sound (planIn h) (f ∷ [])
@@ -57,7 +53,7 @@ sized none-held = record {
     below = λ f m. absurd (List·Memᴰ·not-nil m);
   };
   levels-room = length-replicate {A = ℕ} 24 0;
-  entries-room = length-replicate {A = ℕ} 6144 0;
+  entries-room = length-replicate {A = ℕ} mostEntries 0;
   marks-held = refl;
   each = λ f h. absurd (omega arith);
   columns-low = λ h. absurd (omega arith);
@@ -72,7 +68,7 @@ sized (held p marks G size left) = record {
       (some-sound p (everyRun p) (standing marks) (good-sound p G) (omega (arith, standing-within marks, length-from 0 (runs p)))
       (λ f m. run-mem p f (omega (arith, stands-below marks f m))));
   levels-room = filled-length 24 0 (p .levels) (G .columns-high);
-  entries-room = filled-length 6144 0 (p .table) (omega (arith, G .size, mul-below (runs p) (columns p) 256 24 (G .runs-high) (G .columns-high)));
+  entries-room = filled-length mostEntries 0 (p .table) (omega (arith, G .size, mul-below (runs p) (columns p) 256 24 (G .runs-high) (G .columns-high)));
   marks-held = rw (marks-in p marks size) size;
   columns-low = λ h. G .columns-low;
   each = λ f h. rw (plan-in p G marks size) (sound-run p (everyRun p) (good-sound p G) f (run-mem p f h));

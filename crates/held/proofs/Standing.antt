@@ -1,15 +1,10 @@
 -- Marks, and the list of the runs that stand.
-use mathlib.Core.Path.{_≡_, refl, sym, _∙_, ap, subst}
-use mathlib.Core.Logic.{⊎-elim}
-use mathlib.Core.Bool.{Bool, true, false, cond}
-use mathlib.Core.List.{List, [], _∷_, _++_, List·Memᴰ, List·Memᴰ·head, List·Memᴰ·tail, List·Memᴰ·not-nil}
-use mathlib.Core.List.{List·Memᴰ·append-cases, Memᴰ·append-left, Memᴰ·append-right}
-use Prim.Native.Nat.{ℕ, zero, suc, _+_, _≤_, _<_}
-use native.Mathlib.Nat.{add-zero, zero-add, suc-add, add-suc}
-use native.Mathlib.Numerals.{add-one}
-use native.Mathlib.Omega.{arith}
-use lib.ListN.{length, getD, set, take, replicate, length-append}
-use lib.Seq.{set-getD, take-suc, length-take-le}
+use Rattle.exact.proofs.Ground.{true, false, Bool, cond, List, [], _∷_, _++_, List·Memᴰ, List·Memᴰ·head, List·Memᴰ·tail, List·Memᴰ·not-nil}
+use Rattle.exact.proofs.Ground.{Memᴰ·append-left, Memᴰ·append-right, List·Memᴰ·append-cases, ⊎-elim, _≡_, _∙_, sym, ap, refl, subst, ℕ, _≤_, _<_, _+_}
+use Rattle.exact.proofs.Ground.{suc, zero, zero-add, add-zero, add-one, arith, length, getD, take, replicate, set, length-append, length-take-le}
+use Rattle.exact.proofs.Ground.{take-suc}
+use native.Mathlib.Nat.{suc-add, add-suc}
+use lib.Seq.{set-getD}
 use Rattle.exact.specs.Lists.{from}
 use Rattle.exact.proofs.Tests.{clash}
 use Rattle.held.specs.Held.{standingFrom, standing}

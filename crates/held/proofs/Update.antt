@@ -1,12 +1,6 @@
 -- The words after a strike or a reinstatement, from the words before and one row sum.
-use mathlib.Core.Path.{_≡_, sym, _∙_, ap}
-use mathlib.Core.Bool.{Bool, true, false, not}
-use mathlib.Core.List.{List, _∷_, _++_}
-use Prim.Native.Nat.{ℕ, _+_, _≤_, _<_, _^_}
-use native.Mathlib.Omega.{arith}
-use lib.IntN.{ℤ, pos, natAbs, _+ℤ_, _*ℤ_}
-use lib.ListN.{length, getD, set}
-use lib.Seq.{ext-getD}
+use Rattle.exact.proofs.Ground.{true, false, Bool, not, List, _∷_, _++_, _≡_, _∙_, sym, ap, ℕ, _≤_, _<_, _+_, _^_, arith, pos, ℤ, natAbs, _*ℤ_, _+ℤ_}
+use Rattle.exact.proofs.Ground.{length, getD, set, ext-getD}
 use Rattle.exact.proofs.Ring.{neg-*}
 use Rattle.exact.proofs.Order.{natAbs-+, natAbs-*-≤}
 use Rattle.exact.proofs.Numbers.{length-map-from, map-from-at}

@@ -1,11 +1,6 @@
 -- A loop that walks the marks and writes down the runs that stand.
-use mathlib.Core.Path.{_≡_, refl, _∙_}
-use mathlib.Core.Bool.{Bool, true, false}
-use mathlib.Core.List.{List, [], _∷_, append-nil}
-use Prim.Native.Nat.{ℕ, _+_, _≤_, _<_}
-use native.Mathlib.Omega.{arith}
-use lib.ListN.{length, getD, set, take, replicate, length-append}
-use lib.Seq.{take-length, length-take-le}
+use Rattle.exact.proofs.Ground.{true, false, Bool, List, [], _∷_, append-nil, _≡_, _∙_, refl, ℕ, _≤_, _<_, _+_, arith, length, getD, take, replicate}
+use Rattle.exact.proofs.Ground.{set, length-append, length-take-le, take-length}
 use Rattle.exact.specs.Lists.{filledTo}
 use Rattle.exact.proofs.Rooms.{filled-next}
 use Rattle.rules.specs.Plan.{mostRuns}

@@ -10,7 +10,7 @@ use Rattle.rules.specs.Plan.{mostColumns, mostRuns}
 use Rattle.rules.specs.Refusals.{refusal, tooFew}
 use Rattle.held.specs.Held.{IsHeld, standing}
 use Rattle.held.specs.declared.Held.{Held}
-use Rattle.held.specs.declared.inner.Standing.{Standing}
+use Rattle.held.specs.declared.routines.Standing.{Standing}
 
 -- refusal 10 where no run stands, the standing runs of these marks, and how many they are
 unfoldable pub standingOf : List Bool → Standing

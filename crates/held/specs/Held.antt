@@ -5,7 +5,7 @@ use mathlib.Core.List.{List, [], _∷_}
 use Prim.Native.Nat.{ℕ, suc, _*_, _<_}
 use lib.ListN.{length, getD, set, take, replicate}
 use Rattle.exact.specs.Lists.{filledTo}
-use Rattle.rules.specs.Plan.{Plan, plan, columns, runs, mostColumns, mostRuns}
+use Rattle.rules.specs.Plan.{Plan, plan, columns, runs, mostColumns, mostRuns, mostEntries}
 use Rattle.rules.specs.Refusals.{Check, refusal, unless, ofHeld, planChecks, badPlace, already, tooFew}
 use Rattle.plan.specs.Good.{Good}
 use Rattle.words.specs.Answers.{wordList, zeros}
@@ -30,7 +30,7 @@ heldOf p marks = record {
   columns = columns p;
   runs = runs p;
   levels = filledTo mostColumns 0 (p .levels);
-  entries = filledTo 6144 0 (p .table);
+  entries = filledTo mostEntries 0 (p .table);
   marks = filledTo mostRuns false marks;
   words = wordList p (standing marks);
 }
@@ -41,7 +41,7 @@ emptyHeld = record {
   columns = 0;
   runs = 0;
   levels = replicate mostColumns 0;
-  entries = replicate 6144 0;
+  entries = replicate mostEntries 0;
   marks = replicate mostRuns false;
   words = zeros;
 }

@@ -1,13 +1,14 @@
 // Opening a plan, strike and reinstatement.
 use crate::Held;
 use crate::HeldAnswer;
-use crate::inner::changed_words;
-use crate::inner::factor;
-use crate::inner::standing_runs;
 use crate::measures::diagonal_of;
 use crate::measures::row_of;
+use crate::routines::changed_words;
+use crate::routines::factor;
+use crate::routines::standing_runs;
 use exact::bytes::copy;
 use rules::Refusal;
+use rules::sizes::MOST_ENTRIES;
 ghost use mathlib.Core.Path.{_≡_};
 ghost use mathlib.Core.Bool.{true, false};
 ghost use Prim.Native.Nat.{_≤_};
@@ -23,7 +24,7 @@ fn empty() -> Held
     ensures { λ r. ⌜ r ≡ emptyHeld ⌝ }
 {
     let levels = [0u8; 24];
-    let entries = [0u8; 6144];
+    let entries = [0u8; MOST_ENTRIES];
     let marks = [false; 256];
     let words = [0i64; 24];
     Held {
@@ -55,10 +56,10 @@ fn opened(levels: &[u8], table: &[u8]) -> Held
 {
     let columns = levels.len();
     let runs = table.len() / columns;
-    let words = words::inner::words_of_plan(levels, table);
+    let words = words::routines::words_of_plan(levels, table);
     let mut held_levels = [0u8; 24];
     copy(levels, &mut held_levels);
-    let mut entries = [0u8; 6144];
+    let mut entries = [0u8; MOST_ENTRIES];
     copy(table, &mut entries);
     Held {
         columns,

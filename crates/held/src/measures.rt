@@ -1,6 +1,6 @@
 // What a change of mark takes from the routines below, which a held plan lends parts of its arrays.
 use crate::Held;
-use crate::inner::standing_runs;
+use crate::routines::standing_runs;
 use words::Sums;
 ghost use mathlib.Core.Path.{_≡_};
 ghost use mathlib.Core.List.{[]};
@@ -21,7 +21,7 @@ pub(crate) fn row_of(held: Held, run: usize) -> Sums
     let standing = standing_runs(held);
     let numbers = standing.runs;
     let count = standing.count;
-    words::inner::row(&levels[..columns], &entries[..size], &numbers[..count], run)
+    words::routines::row(&levels[..columns], &entries[..size], &numbers[..count], run)
 }
 
 // E_j, for each length j.
@@ -31,5 +31,5 @@ pub(crate) fn diagonal_of(held: Held) -> [i64; 24]
 {
     let columns = held.columns;
     let levels = held.levels;
-    words::inner::diagonal(&levels[..columns])
+    words::routines::diagonal(&levels[..columns])
 }

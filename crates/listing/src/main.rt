@@ -1,6 +1,7 @@
 // Reads plan text and writes its listing.
 use libc::STDIN_FILENO;
-use report::MOST_BYTES;
+use listing_lines::MOST_BYTES;
+use listing_lines::routines::write_listing;
 use rules::Refusal;
 
 fn main() {
@@ -12,8 +13,7 @@ fn main() {
     }
     let size = read.size;
     let mut lines = [0u8; MOST_BYTES];
-    let answer = report::listing(&text[..size], &mut lines);
-    let bytes = answer.bytes;
+    let bytes = write_listing(&text[..size], &mut lines);
     let refused: Refusal = console::refusal_of(&text[..size]);
     if refused.number != 0 {
         console::refuse(&lines[..bytes], &text[..size], refused);

@@ -4,11 +4,9 @@ use lines::line;
 use lines::refusal_line;
 use rules::Refusal;
 use rules::sizes::MOST_COLUMNS;
+use rules::sizes::MOST_ENTRIES;
 
 mod lines;
-
-// 256 runs of 24 columns.
-const MOST_ENTRIES: usize = 6144;
 
 fn wide(level: u8) -> u64 {
     level as u64

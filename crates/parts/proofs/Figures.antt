@@ -1,15 +1,9 @@
 -- Worked figures: words from counts, beside the same from pairs.
-use mathlib.Core.Path.{_≡_, refl}
-use mathlib.Core.List.{List, [], _∷_, map}
-use Prim.Native.Nat.{ℕ, _-_}
-use lib.ListN.{length}
-use lib.IntN.{pos, natAbs, _-ℤ_, _*ℤ_}
-use Rattle.exact.specs.Lists.{sum, prod}
+use Rattle.exact.proofs.Ground.{List, [], _∷_, map, _≡_, refl, ℕ, pos, natAbs, _*ℤ_, _-ℤ_, length}
+use Rattle.exact.specs.Lists.{prod}
 use Rattle.rules.specs.Plan.{Plan, plan, level, entry, everyRun}
-use Rattle.sets.specs.Sets.{subsets}
 use Rattle.words.specs.Words.{score, wordOf}
-use Rattle.parts.specs.Parts.{sign}
-use Rattle.parts.proofs.WordCounts.{squares}
+use Rattle.parts.specs.Parts.{squaredCounts, fromCombinations}
 
 -- ---- W(I) from counts, by the sum that request #108 gives
 
@@ -42,11 +36,8 @@ unfolding wordOf score
 from-pairs x = let p = x .asked in natAbs (wordOf (level p) (entry p) (everyRun p) (x .columns))
 
 from-counts : Word → ℕ
-unfolding squares
-from-counts x =
-    let p = x .asked in
-    let I = x .columns in
-    natAbs (sum (subsets I) (λ J. sign (length I - length J) *ℤ (prod J (λ i. pos (level p i)) *ℤ squares (level p) (entry p) (everyRun p) J)))
+unfolding fromCombinations squaredCounts
+from-counts x = let p = x .asked in natAbs (fromCombinations (level p) (entry p) (everyRun p) (x .columns))
 
 as-from-pairs : map from-pairs words ≡ map (λ x. x .word) words
 unfolding from-pairs words
@@ -67,11 +58,11 @@ alone =
     ∷ []
 
 from-squares : Word → ℕ
-unfolding squares
+unfolding squaredCounts
 from-squares x =
     let p = x .asked in
     let n = length (everyRun p) in
-    natAbs (prod (x .columns) (λ i. pos (level p i)) *ℤ squares (level p) (entry p) (everyRun p) (x .columns) -ℤ pos n *ℤ pos n)
+    natAbs (prod (x .columns) (λ i. pos (level p i)) *ℤ squaredCounts (level p) (entry p) (everyRun p) (x .columns) -ℤ pos n *ℤ pos n)
 
 alone-from-pairs : map from-pairs alone ≡ map (λ x. x .word) alone
 unfolding from-pairs alone

@@ -1,15 +1,10 @@
 -- The sum over the parts of a set of columns is W(I), whatever the levels: column after column, the level times the pairs of runs that
 -- agree in it, less all pairs, is the score.
-use mathlib.Core.Path.{_≡_, refl, sym, _∙_, ap, ap₂, subst}
-use mathlib.Core.Bool.{Bool, true, false, cond, _&&_}
-use mathlib.Core.List.{List, [], _∷_, _++_, map, append-assoc, List·Memᴰ, List·Memᴰ·head, List·Memᴰ·tail, Memᴰ·of-map}
-use Prim.Native.Nat.{ℕ, zero, suc, _+_, _*_, _^_, _-_, _≤_, _<_}
-use native.Mathlib.Nat.{mul-le-mul, mul-le-mul-right, pow-suc}
-use native.Mathlib.Omega.{arith}
-use lib.Dec.{eqb}
-use lib.ListN.{length, getD, take, drop, replicate, length-append, length-map, List·getD-append}
-use lib.Seq.{drop-at}
-use lib.IntN.{ℤ, pos, negsuc, negℤ, natAbs, _+ℤ_, _*ℤ_}
+use Rattle.exact.proofs.Ground.{true, false, Bool, cond, _&&_, List, [], _∷_, map, _++_, List·Memᴰ, List·Memᴰ·head, List·Memᴰ·tail, append-assoc}
+use Rattle.exact.proofs.Ground.{Memᴰ·of-map, _≡_, _∙_, sym, ap, refl, ap₂, subst, ℕ, _≤_, _<_, _-_, _+_, _*_, suc, zero, _^_, mul-le-mul}
+use Rattle.exact.proofs.Ground.{mul-le-mul-right, arith, eqb, pos, ℤ, natAbs, _*ℤ_, _+ℤ_, negsuc, negℤ, length, getD, take, drop, replicate}
+use Rattle.exact.proofs.Ground.{length-append, length-map, List·getD-append, drop-at}
+use native.Mathlib.Nat.{pow-suc}
 use Rattle.exact.specs.Lists.{from, filledTo, sum, prod}
 use Rattle.exact.proofs.Ring.{ring, *-one, one-*}
 use Rattle.exact.proofs.Order.{natAbs-neg}

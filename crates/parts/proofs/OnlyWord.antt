@@ -1,35 +1,30 @@
 -- Columns of which the runs have no word but that of all of them, as every set of R columns is: W(I) is the product of the levels times
 -- the squared counts, less n²; it is at most n²(s - 1) for each level s; and there is a counter for each combination.
-use mathlib.Core.Path.{_≡_, refl, sym, _∙_, ap, subst}
-use mathlib.Core.List.{List, [], _∷_, _++_, map, List·Memᴰ, List·Memᴰ·head, List·Memᴰ·tail, List·Memᴰ·not-nil}
-use Prim.Native.Nat.{ℕ, _+_, _*_, _-_, _≤_, _<_, min}
-use native.Mathlib.Nat.{le-trans, mul-le-mul, min-eq-left}
-use native.Mathlib.Decide.{decLe}
-use native.Mathlib.Omega.{arith}
-use borrow.Author.Tests.{ne-eqb}
-use lib.ListN.{length, take, replicate, length-map}
-use lib.Seq.{take-at}
-use lib.IntN.{ℤ, pos, natAbs, _+ℤ_, _-ℤ_, _*ℤ_, +ℤ-idr, +ℤ-negℤ-cancel}
-use lib.Signed.{_≤ℤ_}
+use Rattle.exact.proofs.Ground.{List, [], _∷_, map, _++_, List·Memᴰ, List·Memᴰ·head, List·Memᴰ·tail, List·Memᴰ·not-nil, _≡_, _∙_, sym, ap, refl}
+use Rattle.exact.proofs.Ground.{subst, ℕ, _≤_, _<_, _-_, _+_, _*_, min, decLe, le-trans, mul-le-mul, arith, pos, ℤ, natAbs, _*ℤ_, _+ℤ_, _-ℤ_, +ℤ-idr}
+use Rattle.exact.proofs.Ground.{length, take, replicate, length-map, take-at, _≤ℤ_, ne-eqb}
+use native.Mathlib.Nat.{min-eq-left}
+use lib.IntN.{+ℤ-negℤ-cancel}
 use Rattle.exact.specs.Lists.{from, filledTo, sum, prod}
 use Rattle.exact.proofs.Numbers.{from-add, mem-from, mul-below}
-use Rattle.exact.proofs.Sums.{sum-cong, sum-cong-in, sum-0, sum-++}
+use Rattle.exact.proofs.Sums.{sum-cong, sum-cong-in, sum-0, sum-++, sum-map}
 use Rattle.exact.proofs.Tests.{false-is}
 use Rattle.rules.specs.Plan.{Plan, level, entry, mostRuns, highestLevel}
 use Rattle.sets.specs.Sets.{choose}
 use Rattle.sets.proofs.Parts.{Part, skip, keep, part-length, part-trans, part-choose, choose-part}
 use Rattle.plan.specs.Good.{Sound}
 use Rattle.words.specs.Words.{wordOf, word}
+use Rattle.counts.specs.Counts.{combinations, tally}
 use Rattle.counts.specs.Numbered.{productOf, numberOf, tallyOf, Columns, mostNumbers}
-use Rattle.parts.specs.Parts.{times, squaresOf, NoneShorter, OnlyWord}
-use Rattle.counts.proofs.Numbered.{Below, number-below}
+use Rattle.parts.specs.Parts.{squaredCounts, times, squaresOf, NoneShorter, OnlyWord}
+use Rattle.counts.proofs.Numbered.{Below, number-below, tallies-numbered}
 use Rattle.counts.proofs.Counted.{too-many}
 use Rattle.counts.proofs.Balance.{Even→even}
-use Rattle.counts.proofs.Even.{AllBelow}
+use Rattle.words.specs.Entries.{AllBelow}
 use Rattle.counts.proofs.Turns.{all-below}
 use Rattle.counts.proofs.Wordless.{parts→even, word-zero}
 use Rattle.counts.proofs.Ceiling.{agreeing-first, ceiling}
-use Rattle.parts.proofs.WordCounts.{squares, agreeing-squares}
+use Rattle.parts.proofs.WordCounts.{agreeing-counts}
 use Rattle.parts.proofs.Squared.{squares-bound}
 
 -- a member, and what stands before and after it
@@ -81,13 +76,13 @@ module _ {R C : Type 0} (level : C → ℕ) (entry : R → C → ℕ) (runs : Li
 
   -- the product of the levels times the squared counts, less n²
   pub only-squares : (I : List C) → AllBelow level entry runs I → NoneShorter level entry runs I (length I) → 1 ≤ length I →
-      wordOf level entry runs I ≡ prod I (λ i. pos (level i)) *ℤ squares level entry runs I -ℤ pos (length runs) *ℤ pos (length runs)
+      wordOf level entry runs I ≡ prod I (λ i. pos (level i)) *ℤ squaredCounts level entry runs I -ℤ pos (length runs) *ℤ pos (length runs)
   only-squares [] v none h = absurd (omega arith)
   only-squares (i ∷ K) v none h =
       let n² = pos (length runs) *ℤ pos (length runs) in
       sym (+ℤ-negℤ-cancel (wordOf level entry runs (i ∷ K)) n²)
       ∙ ap (λ z. z -ℤ n²)
-      (sym (agreeing-first level entry runs i K (with-first i K v none) (others i K v none)) ∙ agreeing-squares level entry runs (i ∷ K) v)
+      (sym (agreeing-first level entry runs i K (with-first i K v none) (others i K v none)) ∙ agreeing-counts level entry runs (i ∷ K) v)
 
   -- so there are at most 4,096 combinations, however many columns
   pub only-few : (I : List C) → AllBelow level entry runs I → NoneShorter level entry runs I (length I) → 0 < length runs → length runs ≤ mostRuns →
@@ -124,20 +119,32 @@ module _ {R C : Type 0} (level : C → ℕ) (entry : R → C → ℕ) (runs : Li
         go [] b = refl
         go (f ∷ rs) b = rw (ne-eqb (numberOf level entry f I) k (λ e. omega (arith, b f (List·Memᴰ·head refl))), go rs (λ g m. b g (List·Memᴰ·tail m)))
 
-    pub only-numbers : productOf level I ≤ mostNumbers → squaresOf (numbers runs) ≡ squares level entry runs I
-    unfolding squaresOf squares
+    abbrev square : ℕ → ℤ
+    square n = pos n *ℤ pos n
+
+    -- the combinations, by their numbers
+    by-number : squaredCounts level entry runs I ≡ sum (from 0 (productOf level I)) (λ k. square (tallyOf level entry runs I k))
+    unfolding squaredCounts
+    by-number =
+        sym (sum-map (tally entry runs I) (combinations level I) square)
+        ∙ ap (λ l. sum l square) (tallies-numbered level entry runs I v)
+        ∙ sum-map (tallyOf level entry runs I) (from 0 (productOf level I)) square
+
+    pub only-numbers : productOf level I ≤ mostNumbers → squaresOf (numbers runs) ≡ squaredCounts level entry runs I
+    unfolding squaresOf
     only-numbers h =
         let P = productOf level I in
-        let S : ℕ → ℤ = λ k. pos (tallyOf level entry runs I k) *ℤ pos (tallyOf level entry runs I k) in
+        let S : ℕ → ℤ = λ k. square (tallyOf level entry runs I k) in
         let e : mostNumbers ≡ P + (mostNumbers - P) = omega arith in
-        sum-cong (from 0 mostNumbers) (λ k. ap (λ c. pos c *ℤ pos c) (times-tally runs k))
+        sum-cong (from 0 mostNumbers) (λ k. ap square (times-tally runs k))
         ∙ ap (λ n. sum (from 0 n) S) e
         ∙ ap (λ l. sum l S) (from-add 0 P (mostNumbers - P))
         ∙ sum-++ (from 0 P) (from (0 + P) (mostNumbers - P)) S
         ∙ ap (λ z. sum (from 0 P) S +ℤ z)
-        (sum-cong-in (from (0 + P) (mostNumbers - P)) (λ k m. ap (λ c. pos c *ℤ pos c) (none-counted k (let q = mem-from (0 + P) (mostNumbers - P) m in omega arith)))
+        (sum-cong-in (from (0 + P) (mostNumbers - P)) (λ k m. ap square (none-counted k (let q = mem-from (0 + P) (mostNumbers - P) m in omega arith)))
         ∙ sum-0 (from (0 + P) (mostNumbers - P)))
         ∙ +ℤ-idr (sum (from 0 P) S)
+        ∙ sym by-number
 
   product-levels : (I : List C) → prod I (λ i. pos (level i)) ≡ pos (productOf level I)
   product-levels [] = refl
@@ -168,10 +175,11 @@ module _ (p : Plan) (rs I : List ℕ) (S : Sound p rs) (K : Columns (p .levels) 
 
     pub squares-found : natAbs z ≤ mostRuns * mostRuns
     squares-found =
-        rw d (le-trans (squares-bound numbersOf) (rw (length-map rs (λ f. numberOf (level p) (entry p) f I)) (mul-below (length rs) (length rs) mostRuns mostRuns (S .few) (S .few))))
+        rw d (le-trans (squares-bound numbersOf)
+        (rw (length-map rs (λ f. numberOf (level p) (entry p) f I)) (mul-below (length rs) (length rs) mostRuns mostRuns (S .few) (S .few))))
 
     pub only-found : pos x *ℤ z -ℤ pos (length rs * length rs) ≡ wordOf (level p) (entry p) rs I
     only-found =
         rw (product-found, d, only-numbers (level p) (entry p) rs I (all-below p rs I S K) few-combinations)
-        (ap (λ y. y *ℤ squares (level p) (entry p) rs I -ℤ pos (length rs * length rs)) (sym (product-levels (level p) (entry p) rs I))
+        (ap (λ y. y *ℤ squaredCounts (level p) (entry p) rs I -ℤ pos (length rs * length rs)) (sym (product-levels (level p) (entry p) rs I))
         ∙ sym (only-squares (level p) (entry p) rs I below (O .none-shorter) (O .columns)))

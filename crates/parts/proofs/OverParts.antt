@@ -1,13 +1,9 @@
 -- The sum over the parts of a set of columns: how large it is, and what each of its two halves is given.
-use mathlib.Core.Path.{_≡_, refl, _∙_, ap, subst}
-use mathlib.Core.List.{List, [], _∷_, map, Memᴰ·of-map}
-use Prim.Native.Nat.{ℕ, _+_, _*_, _^_, _-_, _≤_, _<_}
-use native.Mathlib.Nat.{le-trans, le-of-eq, mul-le-mul, mul-le-mul-left, mul-le-mul-right, pow-suc}
-use native.Mathlib.Omega.{arith}
-use lib.ListN.{length, getD, take, drop, replicate, length-append, length-drop, length-map}
-use lib.Seq.{take-all, take-at}
+use Rattle.exact.proofs.Ground.{List, [], _∷_, map, Memᴰ·of-map, _≡_, _∙_, ap, refl, subst, ℕ, _≤_, _<_, _-_, _+_, _*_, _^_, le-trans, mul-le-mul}
+use Rattle.exact.proofs.Ground.{mul-le-mul-right, arith, pos, ℤ, natAbs, _*ℤ_, _+ℤ_, negℤ, length, getD, take, drop, replicate, length-append}
+use Rattle.exact.proofs.Ground.{length-map, length-drop, take-at, take-all}
+use native.Mathlib.Nat.{le-of-eq, mul-le-mul-left, pow-suc}
 use lib.Pow.{pow-mono}
-use lib.IntN.{ℤ, pos, negℤ, natAbs, _+ℤ_, _*ℤ_}
 use Rattle.exact.specs.Lists.{from, filledTo}
 use Rattle.exact.proofs.Order.{natAbs-+, natAbs-*, natAbs-neg, natAbs-*-≤}
 use Rattle.exact.proofs.Numbers.{mem-from}

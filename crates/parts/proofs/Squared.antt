@@ -1,16 +1,8 @@
 -- Counters and squared counts of some numbers: one number more, and one number less.
-use mathlib.Core.Path.{_≡_, refl, sym, _∙_, ap, subst, fun-ext}
-use mathlib.Core.Bool.{Bool, true, false, cond}
-use mathlib.Core.List.{List, [], _∷_, map, List·Memᴰ, List·Memᴰ·head, List·Memᴰ·tail}
-use Prim.Native.Nat.{ℕ, zero, suc, _+_, _*_, _-_, _≤_, _<_}
-use native.Mathlib.Nat.{le-refl, le-trans, zero-add}
-use native.Mathlib.Decide.{decLt}
-use native.Mathlib.Numerals.{add-one}
-use native.Mathlib.Omega.{arith}
-use lib.Dec.{eqb}
-use lib.ListN.{length, getD, set, drop, replicate, length-drop}
-use lib.Seq.{set-set, set-getD, getD-set-same, drop-cons}
-use lib.IntN.{ℤ, pos, natAbs, _+ℤ_, _*ℤ_, +ℤ-idl, +ℤ-comm, zero-*ℤ}
+use Rattle.exact.proofs.Ground.{true, false, Bool, cond, List, [], _∷_, map, List·Memᴰ, List·Memᴰ·head, List·Memᴰ·tail, _≡_, _∙_, sym, ap, refl}
+use Rattle.exact.proofs.Ground.{subst, fun-ext, ℕ, _≤_, _<_, _-_, _+_, _*_, suc, zero, decLt, zero-add, le-trans, le-refl, add-one, arith, eqb, pos}
+use Rattle.exact.proofs.Ground.{ℤ, natAbs, _*ℤ_, _+ℤ_, +ℤ-idl, +ℤ-comm, zero-*ℤ, length, getD, drop, replicate, set, length-drop, drop-cons}
+use lib.Seq.{set-set, set-getD, getD-set-same}
 use Rattle.exact.specs.Lists.{from, sum}
 use Rattle.exact.proofs.Ring.{ring}
 use Rattle.exact.proofs.Order.{natAbs-+}

@@ -1,12 +1,9 @@
 -- The entries of some runs, column after column: one run more, and one column more.
-use mathlib.Core.Path.{_≡_, refl, sym, _∙_, ap, ap₂}
-use mathlib.Core.List.{List, [], _∷_, _++_, map, append-assoc, append-nil}
-use Prim.Native.Nat.{ℕ, _+_, _*_, _-_, _≤_, _<_}
-use native.Mathlib.Nat.{le-refl, le-of-lt, suc-mul, mul-le-mul-right}
-use native.Mathlib.Numerals.{add-one}
-use native.Mathlib.Omega.{arith}
-use lib.ListN.{length, getD, set, take, drop, replicate, length-append, length-map}
-use lib.Seq.{paste, paste-suc, take-suc, take-at, take-all, length-take-le, drop-append-add}
+use Rattle.exact.proofs.Ground.{List, [], _∷_, map, _++_, append-assoc, append-nil, _≡_, _∙_, sym, ap, refl, ap₂, ℕ, _≤_, _<_, _-_, _+_, _*_, le-refl}
+use Rattle.exact.proofs.Ground.{mul-le-mul-right, suc-mul, add-one, arith, length, getD, take, drop, replicate, set, length-append, length-map}
+use Rattle.exact.proofs.Ground.{length-take-le, take-at, take-suc, take-all}
+use native.Mathlib.Nat.{le-of-lt}
+use lib.Seq.{paste, paste-suc, drop-append-add}
 use Rattle.exact.specs.Lists.{filledTo}
 use Rattle.exact.proofs.Lists.{getD-map}
 use Rattle.exact.proofs.Rooms.{into-blank}

@@ -1,11 +1,7 @@
 -- W(I) from the counts of combinations: the alternating sum, over the parts J of I, of the levels' product times the sum of squared counts.
-use mathlib.Core.Path.{_≡_, refl, sym, _∙_, ap}
-use mathlib.Core.List.{List, [], _∷_, map, List·Memᴰ·head, List·Memᴰ·tail}
-use Prim.Native.Nat.{ℕ, suc, _-_, _≤_, zero-le}
+use Rattle.exact.proofs.Ground.{List, [], _∷_, map, List·Memᴰ·head, List·Memᴰ·tail, _≡_, _∙_, sym, ap, refl, ℕ, _≤_, _-_, suc, zero-le, arith, pos, ℤ}
+use Rattle.exact.proofs.Ground.{_*ℤ_, _+ℤ_, _-ℤ_, negsuc, negℤ, +ℤ-idr, length}
 use native.Mathlib.Nat.{suc-sub-suc}
-use native.Mathlib.Omega.{arith}
-use lib.ListN.{length}
-use lib.IntN.{ℤ, pos, negsuc, negℤ, _+ℤ_, _-ℤ_, _*ℤ_, +ℤ-idr}
 use Rattle.exact.specs.Lists.{from, each, sum, prod}
 use Rattle.exact.proofs.Ring.{ring, *-one, one-*, *-assoc, *-swap}
 use Rattle.exact.proofs.Sums.{sum-cong, prod-cong, prod-*, sum-cong-in, sum-*, sum-++, sum-map, sum-swap}
@@ -14,11 +10,9 @@ use Rattle.sets.proofs.Parts.{sum-parts, part-length, part-mem, subsets-part}
 use Rattle.words.specs.Words.{wordOf}
 use Rattle.words.proofs.Squares.{agree, agree-sym, score-agree, pick}
 use Rattle.words.proofs.Positive.{pairs, pairs-one, pairs-plain, pairs-split}
-use Rattle.counts.specs.Counts.{combinations, tally}
-use Rattle.counts.specs.Numbered.{productOf, tallyOf}
-use Rattle.parts.specs.Parts.{sign}
-use Rattle.counts.proofs.Numbered.{tallies-numbered}
-use Rattle.counts.proofs.Even.{AllBelow}
+use Rattle.counts.specs.Counts.{combinations}
+use Rattle.parts.specs.Parts.{sign, squaredCounts, fromCombinations}
+use Rattle.words.specs.Entries.{AllBelow}
 use Rattle.counts.proofs.Shown.{has, has-nil, has-cons, tally-sum}
 use Rattle.counts.proofs.Ceiling.{both, agreeing}
 
@@ -54,26 +48,16 @@ module _ {R C : Type 0} (level : C → ℕ) (entry : R → C → ℕ) (runs : Li
       ∙ sym (sum-map (λ P. a ∷ P) (combinations level J) F))
       ∙ sym (sum-each A (λ a. map (λ P. a ∷ P) (combinations level J)) F)
 
-  -- the sum of the squared counts, combination after combination
-  unfoldable pub squares : List C → ℤ
-  squares J = sum (from 0 (productOf level J)) (λ k. square (pos (tallyOf level entry runs J k)))
-
-  squares-tally : (J : List C) → AllBelow level entry runs J → sum (combinations level J) (λ P. square (pos (tally entry runs J P))) ≡ squares J
-  unfolding squares
-  squares-tally J v =
-      sym (sum-map (tally entry runs J) (combinations level J) (λ n. square (pos n)))
-      ∙ ap (λ l. sum l (λ n. square (pos n))) (tallies-numbered level entry runs J (λ f m i n. v i n .1 f m))
-      ∙ sum-map (tallyOf level entry runs J) (from 0 (productOf level J)) (λ n. square (pos n))
-
-  pub agreeing-squares : (J : List C) → AllBelow level entry runs J → agreeing level entry runs J ≡ prod J (λ i. pos (level i)) *ℤ squares J
-  unfolding agreeing
-  agreeing-squares J v =
+  pub agreeing-counts : (J : List C) → AllBelow level entry runs J →
+      agreeing level entry runs J ≡ prod J (λ i. pos (level i)) *ℤ squaredCounts level entry runs J
+  unfolding agreeing squaredCounts
+  agreeing-counts J v =
       let S = prod J (λ i. pos (level i)) in
       let same : R → R → ℤ = λ f g. prod J (λ i. agree (entry f i) (entry g i)) in
       sum-cong runs (λ f. sum-cong runs (λ g. prod-* J (λ i. pos (level i)) (λ i. agree (entry f i) (entry g i))) ∙ sum-* runs S (same f))
       ∙ sum-* runs S (λ f. sum runs (same f))
       ∙ ap (λ z. S *ℤ z) (sym (pairs-plain runs same) ∙ pairs-agree J (λ f. pos 1) v
-      ∙ sum-cong (combinations level J) (λ P. ap square (tally-sum entry runs J P)) ∙ squares-tally J v)
+      ∙ sum-cong (combinations level J) (λ P. ap square (tally-sum entry runs J P)))
 
 -- ---- the alternating sum
 
@@ -103,10 +87,9 @@ module _ {A : Type 0} where
       ) (gather (y x) (prod I (λ i. y i -ℤ pos 1)))
 
 module _ {R C : Type 0} (level : C → ℕ) (entry : R → C → ℕ) (runs : List R) where
-  pub word-counts : (I : List C) → AllBelow level entry runs I →
-      wordOf level entry runs I ≡ sum (subsets I) (λ J. sign (length I - length J) *ℤ (prod J (λ i. pos (level i)) *ℤ squares level entry runs J))
-  unfolding wordOf agreeing
-  word-counts I v =
+  pub word-combinations : (I : List C) → AllBelow level entry runs I → wordOf level entry runs I ≡ fromCombinations level entry runs I
+  unfolding wordOf agreeing fromCombinations
+  word-combinations I v =
       let y : R → R → C → ℤ = both level entry runs in
       let s : List C → ℤ = λ J. sign (length I - length J) in
       sum-cong runs (λ f. sum-cong runs (λ g. prod-cong I (λ i. score-agree (level i) (entry f i) (entry g i)) ∙ sym (alternate I (y f g)))
@@ -114,4 +97,4 @@ module _ {R C : Type 0} (level : C → ℕ) (entry : R → C → ℕ) (runs : Li
       ∙ sum-swap runs (subsets I) (λ f J. sum runs (λ g. s J *ℤ prod J (y f g)))
       ∙ sum-cong-in (subsets I) (λ J m.
       sum-cong runs (λ f. sum-* runs (s J) (λ g. prod J (y f g))) ∙ sum-* runs (s J) (λ f. sum runs (λ g. prod J (y f g)))
-      ∙ ap (λ z. s J *ℤ z) (agreeing-squares level entry runs J (λ i n. v i (part-mem (subsets-part I J m) i n))))
+      ∙ ap (λ z. s J *ℤ z) (agreeing-counts level entry runs J (λ i n. v i (part-mem (subsets-part I J m) i n))))

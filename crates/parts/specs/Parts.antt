@@ -2,14 +2,35 @@
 -- have so far; and a set of which the runs have no other word, as every set of R columns is.
 use mathlib.Core.Path.{_≡_}
 use mathlib.Core.List.{List, [], _∷_, map, List·Memᴰ}
-use Prim.Native.Nat.{ℕ, zero, suc, _+_, _*_, _≤_, _<_}
+use Prim.Native.Nat.{ℕ, zero, suc, _+_, _*_, _-_, _≤_, _<_}
 use lib.Dec.{eqb}
 use lib.ListN.{length, getD, drop}
 use lib.IntN.{ℤ, pos, negℤ, natAbs, _+ℤ_, _*ℤ_}
-use Rattle.exact.specs.Lists.{from, each, sum, count}
+use Rattle.exact.specs.Lists.{from, each, sum, prod, count}
 use Rattle.rules.specs.Plan.{Plan, level, entry, mostRuns}
+use Rattle.sets.specs.Sets.{subsets}
 use Rattle.words.specs.Words.{word}
+use Rattle.counts.specs.Counts.{combinations, tally}
 use Rattle.counts.specs.Numbered.{mostNumbers}
+
+-- ---- W(I) from counts, as request #108 words it
+
+-- 1, and each time the other sign
+abbrev pub sign : ℕ → ℤ
+sign zero = pos 1
+sign (suc n) = negℤ (sign n)
+
+module _ {R C : Type 0} (level : C → ℕ) (entry : R → C → ℕ) (rs : List R) where
+  -- how often each level combination of the columns J occurs, squared and added up
+  unfoldable pub squaredCounts : List C → ℤ
+  squaredCounts J = sum (combinations level J) (λ P. pos (tally entry rs J P) *ℤ pos (tally entry rs J P))
+
+  -- the alternating sum, over all parts J of I, of the product of J's levels times its squared counts; minus where I has an odd number of
+  -- columns more than J
+  unfoldable pub fromCombinations : List C → ℤ
+  fromCombinations I = sum (subsets I) (λ J. sign (length I - length J) *ℤ (prod J (λ i. pos (level i)) *ℤ squaredCounts J))
+
+-- ---- the same from numbers: each combination has one, and a counter
 
 -- how often k is among the numbers
 abbrev pub times : List ℕ → ℕ → ℕ
@@ -22,11 +43,6 @@ counted xs = map (times xs) (from 0 mostNumbers)
 -- the counts, squared and added up
 unfoldable pub squaresOf : List ℕ → ℤ
 squaresOf xs = sum (from 0 mostNumbers) (λ k. pos (times xs k) *ℤ pos (times xs k))
-
--- 1, and each time the other sign
-abbrev pub sign : ℕ → ℤ
-sign zero = pos 1
-sign (suc n) = negℤ (sign n)
 
 -- each number with one digit more, of a column of s levels
 abbrev pub longer : ℕ → List ℕ → List ℕ → List ℕ

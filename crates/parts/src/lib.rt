@@ -1,8 +1,8 @@
 // For our own crates: W(I) from counts. Of a set of up to 4 columns it is the sum, over all parts of the set, of the product of a part's
 // levels times its squared combination counts, minus where an odd number of columns is left out. Where no smaller part has a word, only
 // the set itself and the empty part are left of that sum, and the set may have any number of columns.
-use counts::inner::combination;
-use counts::inner::product_of;
+use counts::routines::combination;
+use counts::routines::product_of;
 use exact::signed;
 ghost use mathlib.Core.Path.{_≡_};
 ghost use mathlib.Core.List.{[], map};

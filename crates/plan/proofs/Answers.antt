@@ -1,7 +1,5 @@
 -- An answer is made of the call's refusal q and a value, which is blank in a refusal.
-use mathlib.Core.Path.{_≡_, sym, _∙_, ap}
-use mathlib.Core.List.{List}
-use lib.Dec.{T}
+use Rattle.exact.proofs.Ground.{List, _≡_, _∙_, sym, ap, T}
 use Rattle.rules.specs.declared.Refusal.{Refusal}
 use Rattle.rules.specs.Plan.{Plan}
 use Rattle.rules.specs.Refusals.{Check, refusal, unless, ofPlan, accepted, planChecks}

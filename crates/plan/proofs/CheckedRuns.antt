@@ -1,13 +1,6 @@
 -- How a call on a plan begins: what `checked_runs` hands to a routine over some runs, and that the routine's answer is then that of all runs.
-use mathlib.Core.Path.{_≡_, refl, sym, _∙_, ap}
-use mathlib.Core.Bool.{Bool, true, false}
-use mathlib.Core.List.{List, []}
-use Prim.Native.Nat.{ℕ, _≤_}
-use native.Mathlib.Omega.{arith}
-use borrow.Author.Tests.{eqb-true, eqb-false}
-use lib.Dec.{T, eqb}
-use lib.ListN.{length, take}
-use lib.Seq.{length-take-le}
+use Rattle.exact.proofs.Ground.{true, false, Bool, List, [], _≡_, _∙_, sym, ap, refl, ℕ, _≤_, arith, eqb, T, length, take, length-take-le, eqb-true}
+use Rattle.exact.proofs.Ground.{eqb-false}
 use Rattle.exact.proofs.Numbers.{length-from}
 use Rattle.exact.proofs.Rooms.{filled-length, filled-front}
 use Rattle.rules.specs.declared.Refusal.{Refusal}
@@ -15,7 +8,7 @@ use Rattle.rules.specs.Plan.{Plan, runs, everyRun, mostRuns}
 use Rattle.rules.specs.Refusals.{Check, refusal, unless, orElse, planChecks, ofPlan}
 use Rattle.rules.proofs.Order.{inTurn}
 use Rattle.rules.proofs.Ranges.{unless-refused, unless-accepted, or-refused}
-use Rattle.plan.specs.declared.inner.Checked.{Checked}
+use Rattle.plan.specs.declared.routines.Checked.{Checked}
 use Rattle.plan.specs.Good.{Good, Sound}
 use Rattle.plan.specs.Given.{runsOf, checkedOf}
 use Rattle.plan.proofs.Checks.{passed-good, plan-refused, plan-handed}

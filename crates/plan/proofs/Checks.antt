@@ -1,13 +1,9 @@
 -- Nothing is refused exactly for a good plan; and a call asks its own checks only of a good plan.
-use mathlib.Core.Path.{_≡_, refl, sym, _∙_, ap}
-use mathlib.Core.Bool.{Bool, true, false, not, _||_}
-use mathlib.Core.List.{List, [], List·Memᴰ·head, List·Memᴰ·tail, List·Memᴰ·not-nil}
-use Prim.Native.Nat.{ℕ, zero, suc, _+_, _*_, _/_, _%_, _≤_, _<_}
-use native.Mathlib.Nat.{div-add-mod', zero-mul, mul-pos, mod-lt, div-lt-iff-lt-mul}
-use native.Mathlib.Omega.{arith}
-use borrow.Author.Tests.{ltb-true, ltb-false, lt-ltb, le-ltb, eqb-true, eqb-false, eq-eqb, ne-eqb}
-use lib.Dec.{T, eqb, ltb}
-use lib.ListN.{length, getD}
+use Rattle.exact.proofs.Ground.{true, false, Bool, not, _||_, List, [], List·Memᴰ·head, List·Memᴰ·tail, List·Memᴰ·not-nil, _≡_, _∙_, sym, ap, refl, ℕ}
+use Rattle.exact.proofs.Ground.{_≤_, _<_, _+_, _*_, suc, zero, _/_, _%_, mul-pos, zero-mul, arith, eqb, T, ltb, length, getD, ne-eqb, le-ltb, eq-eqb}
+use Rattle.exact.proofs.Ground.{lt-ltb, eqb-true, ltb-false, eqb-false}
+use native.Mathlib.Nat.{div-add-mod', mod-lt, div-lt-iff-lt-mul}
+use borrow.Author.Tests.{ltb-true}
 use Rattle.exact.specs.Lists.{product}
 use Rattle.exact.proofs.Tests.{neither, not-true}
 use Rattle.exact.proofs.Numbers.{row-within}

@@ -1,8 +1,6 @@
--- Document 01, "Worked figures": what is answered of each of these plans and of a set of columns, from the definitions.
-use mathlib.Core.Path.{_≡_, refl}
-use mathlib.Core.List.{List, [], _∷_, _++_, map}
-use Prim.Native.Nat.{ℕ}
-use lib.ListN.{replicate}
+-- Worked figures: what is answered of each of these plans and of a set of columns, from the definitions. The starred ones of document 01
+-- stand in `planner` Starred.
+use Rattle.exact.proofs.Ground.{List, [], _∷_, map, _++_, _≡_, refl, ℕ, replicate}
 use Rattle.rules.specs.declared.Refusal.{Refusal}
 use Rattle.rules.specs.Plan.{Plan, plan}
 use Rattle.rules.specs.Refusals.{refusal, planChecks, firstBadLevel, firstBadEntry}
@@ -34,22 +32,10 @@ is q a = record { question = q; answer = a }
 abbrev wide : ℕ → ℕ → Plan
 wide m s = plan (replicate m s) (replicate m 0)
 
--- one column of two levels, n runs
-abbrev long : ℕ → Plan
-long n = plan (2 ∷ []) (replicate n 0)
-
 figures : List Figure
 figures =
-    is (check (wide 1 1)) (0 ∷ 0 ∷ 0 ∷ [])
-    ∷ is (check (wide 1 17)) (2 ∷ 0 ∷ 0 ∷ [])
-    ∷ is (check (wide 1 2)) (0 ∷ 0 ∷ 0 ∷ [])
-    ∷ is (check (wide 1 16)) (0 ∷ 0 ∷ 0 ∷ [])
-    ∷ is (check (wide 8 16)) (3 ∷ 0 ∷ 0 ∷ [])
-    ∷ is (check (wide 7 16)) (0 ∷ 0 ∷ 0 ∷ [])
-    ∷ is (check (long 256)) (0 ∷ 0 ∷ 0 ∷ [])
-    ∷ is (check (long 257)) (4 ∷ 0 ∷ 0 ∷ [])
-    ∷ is (place 5 3 (0 ∷ 3 ∷ 4 ∷ [])) (0 ∷ 0 ∷ 0 ∷ 5 ∷ [])
-    -- not of the paper: level 0, and 24 columns of one level; the first bad entry is that of run 1, column 2; 1 ahead of 4, 2 ahead of 3, and the first bad level
+    is (place 5 3 (0 ∷ 3 ∷ 4 ∷ [])) (0 ∷ 0 ∷ 0 ∷ 5 ∷ [])
+    -- level 0, and 24 columns of one level; the first bad entry is that of run 1, column 2; 1 ahead of 4, 2 ahead of 3, and the first bad level
     ∷ is (check (wide 1 0)) (2 ∷ 0 ∷ 0 ∷ [])
     ∷ is (check (wide 24 1)) (0 ∷ 0 ∷ 0 ∷ [])
     ∷ is (check (plan (2 ∷ 3 ∷ 4 ∷ []) (1 ∷ 2 ∷ 3 ∷ 1 ∷ 2 ∷ 4 ∷ 2 ∷ 0 ∷ 0 ∷ []))) (5 ∷ 1 ∷ 2 ∷ [])

@@ -1,15 +1,9 @@
 -- A turn of each of the checks' loops, over plain lists.
-use mathlib.Core.Path.{_≡_, sym, _∙_, ap}
-use mathlib.Core.Bool.{Bool, true, false, not}
-use mathlib.Core.List.{List, [], _∷_, _++_, append-assoc}
-use Prim.Native.Nat.{ℕ, suc, _+_, _*_, _-_, _/_, _%_, _≤_, _<_}
-use native.Mathlib.Nat.{add-zero, zero-add, mul-assoc, mul-one, mul-le-mul, mul-pos, mod-eq-of-lt, div-eq-of-lt, mul-add-mod-self-right, mul-add-div-right}
-use native.Mathlib.Numerals.{add-one}
-use native.Mathlib.Omega.{arith}
-use borrow.Author.Tests.{ltb-false, lt-ltb, le-ltb}
-use lib.Dec.{ltb, ltb→lt}
-use lib.ListN.{length, getD, set, drop, replicate, length-drop}
-use lib.Seq.{drop-cons, drop-length, getD-drop, set-at}
+use Rattle.exact.proofs.Ground.{true, false, Bool, not, List, [], _∷_, _++_, append-assoc, _≡_, _∙_, sym, ap, ℕ, _≤_, _<_, _-_, _+_, _*_, suc, _/_}
+use Rattle.exact.proofs.Ground.{_%_, zero-add, mul-le-mul, mul-pos, add-zero, add-one, arith, ltb, ltb→lt, length, getD, drop, replicate, set}
+use Rattle.exact.proofs.Ground.{length-drop, drop-cons, drop-length, getD-drop, le-ltb, lt-ltb, ltb-false}
+use native.Mathlib.Nat.{mul-assoc, mul-one, mod-eq-of-lt, div-eq-of-lt, mul-add-mod-self-right, mul-add-div-right}
+use lib.Seq.{set-at}
 use Rattle.exact.specs.Lists.{from, first, outside, product}
 use Rattle.exact.proofs.Numbers.{length-from, from-snoc}
 use Rattle.exact.proofs.Tests.{is-false, false-is}

@@ -1,21 +1,13 @@
 -- The columns of several levels, one after the other.
-use mathlib.Core.Path.{_≡_, refl, _∙_, ap}
-use mathlib.Core.Bool.{Bool, true, false, cond}
-use mathlib.Core.List.{List, [], _∷_, _++_, append-nil}
-use Prim.Native.Nat.{ℕ, _+_, _-_, _≤_, _<_}
-use native.Mathlib.Nat.{zero-add}
-use native.Mathlib.Omega.{arith}
-use borrow.Author.Tests.{lt-ltb, le-ltb}
-use lib.Dec.{ltb}
-use lib.ListN.{length, getD, take, set, length-append, replicate}
-use lib.Seq.{take-at}
+use Rattle.exact.proofs.Ground.{true, false, Bool, cond, List, [], _∷_, _++_, append-nil, _≡_, _∙_, ap, refl, ℕ, _≤_, _<_, _-_, _+_, zero-add, arith}
+use Rattle.exact.proofs.Ground.{ltb, length, getD, take, replicate, set, length-append, take-at, le-ltb, lt-ltb}
 use Rattle.exact.specs.Lists.{from, filledTo, keep}
 use Rattle.exact.proofs.Numbers.{length-from, from-snoc}
 use Rattle.exact.proofs.Rooms.{filled-next}
 use Rattle.exact.proofs.Lists.{keep-++, keep-most}
 use Rattle.rules.specs.Plan.{Plan, plan, columns, level, everyColumn, several, mostColumns}
 use Rattle.sets.proofs.Parts.{Part, part-kept}
-use Rattle.plan.specs.declared.inner.Several.{Several}
+use Rattle.plan.specs.declared.routines.Several.{Several}
 use Rattle.plan.specs.Several.{severalOf}
 
 pub several-part : (p : Plan) → Part (several (level p) (everyColumn p)) (everyColumn p)

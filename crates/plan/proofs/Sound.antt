@@ -1,10 +1,5 @@
 -- Every run of a good plan, with what the routines over some of its runs are given.
-use mathlib.Core.Path.{_≡_, _∙_}
-use mathlib.Core.List.{List·Memᴰ, map}
-use Prim.Native.Nat.{ℕ, _<_}
-use native.Mathlib.Nat.{zero-add}
-use native.Mathlib.Omega.{arith}
-use lib.ListN.{getD}
+use Rattle.exact.proofs.Ground.{map, List·Memᴰ, _≡_, _∙_, ℕ, _<_, zero-add, arith, getD}
 use Rattle.exact.proofs.Numbers.{length-from, from-at, from-mem, mem-from, map-places, row-within}
 use Rattle.rules.specs.Plan.{Plan, columns, runs, level, everyColumn, everyRun}
 use Rattle.plan.specs.Good.{Good, Sound}

@@ -5,7 +5,7 @@ use lib.ListN.{length, getD}
 use Rattle.exact.specs.Lists.{filledTo}
 use Rattle.rules.specs.Plan.{Plan, everyRun, mostRuns}
 use Rattle.rules.specs.Refusals.{refusal, unless, planChecks}
-use Rattle.plan.specs.declared.inner.Checked.{Checked}
+use Rattle.plan.specs.declared.routines.Checked.{Checked}
 
 -- no level is 0
 pub record FromOne (levels : List ℕ) : Type 0 where

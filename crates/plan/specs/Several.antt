@@ -4,7 +4,7 @@ use Prim.Native.Nat.{ℕ}
 use lib.ListN.{length}
 use Rattle.exact.specs.Lists.{filledTo}
 use Rattle.rules.specs.Plan.{plan, level, everyColumn, several, mostColumns}
-use Rattle.plan.specs.declared.inner.Several.{Several}
+use Rattle.plan.specs.declared.routines.Several.{Several}
 
 -- in front of a row of 24, and how many they are
 unfoldable pub severalOf : List ℕ → Several

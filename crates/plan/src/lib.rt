@@ -9,8 +9,8 @@ ghost use mathlib.Core.List.{[]};
 ghost use Rattle.rules.specs.Plan.{plan};
 ghost use Rattle.rules.specs.Refusals.{refusal, levelChecks, planChecks};
 
-pub mod inner;
 mod levels;
+pub mod routines;
 mod table;
 
 // Refusals 1, 2 and 3: the number of columns, the levels, their product.

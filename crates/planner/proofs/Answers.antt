@@ -1,12 +1,6 @@
 -- What the planner gets: the word, which is never negative, or the refusal number negated, which is below zero. So the two never meet.
-use mathlib.Core.Path.{_≡_, refl, sym, _∙_, ap}
-use mathlib.Core.Bool.{Bool, true, false}
-use mathlib.Core.List.{List, [], _∷_}
-use Prim.Native.Nat.{ℕ, zero, suc, _≤_}
-use borrow.Author.Tests.{eq-eqb, ne-eqb, eqb-true, eqb-false}
-use lib.Dec.{T, eqb}
-use lib.IntN.{ℤ, pos, negℤ}
-use lib.Signed.{_≤ℤ_, ltZ}
+use Rattle.exact.proofs.Ground.{true, false, Bool, List, [], _∷_, _≡_, _∙_, sym, ap, refl, ℕ, _≤_, suc, zero, eqb, T, pos, ℤ, negℤ, _≤ℤ_, ltZ, ne-eqb}
+use Rattle.exact.proofs.Ground.{eq-eqb, eqb-true, eqb-false}
 use Rattle.rules.specs.Plan.{Plan, columns, level, entry, everyRun, everyColumn}
 use Rattle.rules.specs.Refusals.{Check, refusal, unless, planChecks, ofPlan, badLength}
 use Rattle.plan.proofs.Checks.{passed-good, plan-refused}

@@ -1,34 +1,28 @@
 -- The refusal of every call is the first that applies of its checks, in their one order; no call is refused by 12.
-use mathlib.Core.Path.{_≡_, refl, sym, _∙_, ap, subst, subst⁻¹}
-use mathlib.Core.Bool.{Bool, true, false, cond}
-use mathlib.Core.List.{List, [], _∷_, _++_, List·Memᴰ, List·Memᴰ·not-nil}
-use Prim.Native.Nat.{ℕ, _≤_}
-use native.Mathlib.Decide.{ℕ-discrete}
-use borrow.Author.Tests.{eqb-true}
-use lib.Dec.{T, eqb}
-use lib.IntN.{ℤ, pos, negℤ, natAbs}
-use lib.ListN.{length}
-use lib.Signed.{_≤ℤ_, ltZ-yes, clashℤ}
-use Rattle.exact.specs.declared.fractions.Fraction.{Fraction}
+use Rattle.exact.proofs.Ground.{true, false, Bool, cond, List, [], _∷_, _++_, List·Memᴰ, List·Memᴰ·not-nil, _≡_, _∙_, sym, ap, refl, subst, subst⁻¹}
+use Rattle.exact.proofs.Ground.{ℕ, _≤_, ℕ-discrete, eqb, T, pos, ℤ, natAbs, negℤ, length, _≤ℤ_, eqb-true}
+use lib.Signed.{ltZ-yes, clashℤ}
 use Rattle.exact.proofs.Order.{natAbs-neg}
 use Rattle.exact.proofs.Tests.{not-true}
 use Rattle.rules.specs.declared.Refusal.{Refusal}
 use Rattle.rules.specs.Order.{FirstThatApplies}
-use Rattle.rules.specs.Plan.{Plan, columns, mostColumns}
-use Rattle.rules.specs.Refusals.{Check, refusal, refuses, accepted, orElse, numberOr, order, tooFew, largestNumber}
+use Rattle.rules.specs.Plan.{Plan, columns, mostColumns, mostEntries}
+use Rattle.rules.specs.Refusals.{Check, check, refusal, refuses, accepted, orElse, numberOr, order, ofPlan, badRoom, tooFew, largestNumber}
 use Rattle.rules.proofs.Ranges.{unless-refused, unless-accepted, or-assoc}
 use Rattle.rules.proofs.Order.{each-cons, known, refusal-first, passed-none, none-passed, number-most, never-twelve}
 use Rattle.sets.specs.Sets.{placeAnswer, setAnswer}
 use Rattle.survey.specs.Survey.{occursAnswer, alikeAnswer}
 use Rattle.words.specs.Answers.{wordsAnswer, wordAnswer, rowSumsAnswer, diagonalAnswer}
 use Rattle.counts.specs.Counts.{strengthAnswer}
-use Rattle.projections.specs.Projections.{setWordAnswer}
-use Rattle.frequencies.specs.Frequencies.{tableAnswer}
+use Rattle.set_words.specs.SetWords.{setWordAnswer}
+use Rattle.projection_tables.specs.Tables.{tableAnswer}
 use Rattle.resolution.specs.Resolution.{resolutionAnswer, generalizedAnswer}
 use Rattle.resolution.specs.Charts.{chartAnswer, figureAnswer}
-use Rattle.compare.specs.declared.Comparison.{Comparison}
-use Rattle.compare.specs.declared.Comparison.the-variants.{Compared, NotComparable, Refused}
-use Rattle.compare.specs.Compare.{patternOf, comparePatterns, verdictOf, comparisonBeside, compareAnswer}
+use Rattle.tell.specs.Answer.{badAsked, tellAnswer}
+use Rattle.marked.specs.Marked.{markedRuns, miscounted, ofMarked}
+use Rattle.tell_marked.specs.TellMarked.{markedLines, markedWritten}
+use Rattle.compare.specs.Compare.{Says}
+use Rattle.compare.proofs.Cases.{comparison-says}
 use Rattle.advice.specs.Advice.{adviceAnswer, turnsAnswer}
 use Rattle.held.specs.declared.Held.{Held}
 use Rattle.held.specs.declared.HeldAnswer.{HeldAnswer}
@@ -37,8 +31,8 @@ use Rattle.held.specs.Held as held
 use Rattle.text.specs.Text.{planOf}
 use Rattle.text.specs.Reader.{readRefusal}
 use Rattle.writer.specs.Writer.{writeAnswer}
-use Rattle.handover.specs.Handover.{strikesAnswer, leftOf, textRefusal, heldText, rewriteRefusal, rewriteAnswer}
-use Rattle.report.specs.Listing.{listingAnswer}
+use Rattle.standing_text.specs.StandingText.{strikesAnswer, leftOf, textRefusal, heldText, rewriteRefusal, rewriteAnswer}
+use Rattle.listing_lines.specs.Listing.{listingAnswer}
 use Rattle.planner.specs.Calls.{
   Source,
   of-plan,
@@ -58,6 +52,7 @@ use Rattle.planner.specs.Calls.{
   figure,
   turns,
   set-word,
+  tell,
   table,
   own,
   Call,
@@ -76,6 +71,7 @@ use Rattle.planner.specs.Calls.{
   listed,
   refusal-listed,
   rewritten,
+  tell-marked,
   placed,
   set-at,
   readChecks,
@@ -83,7 +79,6 @@ use Rattle.planner.specs.Calls.{
   roomsOf,
   textChecks,
   checksOf,
-  refusedIn,
   refusedBy,
   inTurn,
 }
@@ -116,7 +111,16 @@ own-known p rs (word j) = tt
 own-known p rs (figure i) = tt
 own-known p rs (turns k) = tt
 own-known p rs (set-word f I) = tt
+own-known p rs (tell i J) = tt
 own-known p rs (table relative f rooms) = tt
+
+marked-known : (p : Plan) (marks : List ℕ) (checks : List Check) → T (known checks) → T (known (ofMarked p marks checks))
+marked-known p marks checks k = go (miscounted p marks) (eqb (length (markedRuns p marks)) 0)
+  where
+    go : (b c : Bool) → T (known (ofPlan p (cond b (check 8 true ∷ []) (cond c (tooFew 1 0 ∷ []) checks))))
+    go true c = tt
+    go false true = tt
+    go false false = k
 
 call-checks-known : (marks : List Bool) (c : held.Call) → T (known (callChecks marks c))
 unfolding callChecks
@@ -147,6 +151,7 @@ call-known (rewritten text lost a b) =
     let left = leftOf text lost .held in
     each-cons (λ c. T (known c)) tt
     (strikes-known (textChecks left a b) (begins-known (of-held left) (roomsOf left a b) tt) (openAnswer (planOf text) .held) lost)
+call-known (tell-marked p marks a J room) = one _ (marked-known p marks (badAsked (columns p) a J ∷ badRoom (length (markedLines p marks a J)) (length room) ∷ []) tt)
 call-known (placed m f I) = one _ tt
 call-known (set-at m f k) = one _ tt
 
@@ -156,21 +161,13 @@ passed-accepted : (checks : List Check) → T (known checks) → refuses (refusa
 passed-accepted checks k e =
     sym (none-passed checks k (passed-none checks k refl (eqb-true (refusal checks .number) 0 (not-true (eqb (refusal checks .number) 0) e))))
 
-verdict-accepted : (m k : ℕ) (xs ys : List Fraction) → refusedIn (verdictOf m xs k ys) ≡ accepted
-verdict-accepted m k xs ys = go (eqb m k)
+sides-in-turn : (r s : Refusal) → (refuses s ≡ false → accepted ≡ s) → cond (refuses r) r (cond (refuses s) s accepted) ≡ orElse r s
+sides-in-turn r s = go (refuses r) (refuses s)
   where
-    go : (b : Bool) → refusedIn (cond b (Compared (comparePatterns xs ys)) NotComparable) ≡ accepted
-    go true = refl
-    go false = refl
-
-sides-in-turn : (r s : Refusal) (verdict : Comparison) → refusedIn verdict ≡ accepted → (refuses s ≡ false → accepted ≡ s) →
-    refusedIn (comparisonBeside r s verdict) ≡ orElse r s
-sides-in-turn r s verdict e = go (refuses r) (refuses s)
-  where
-    go : (a b : Bool) → (b ≡ false → accepted ≡ s) → refusedIn (cond a (Refused 1 r) (cond b (Refused 2 s) verdict)) ≡ cond a r s
+    go : (a b : Bool) → (b ≡ false → accepted ≡ s) → cond a r (cond b s accepted) ≡ cond a r s
     go true b h = refl
     go false true h = refl
-    go false false h = e ∙ h refl
+    go false false h = h refl
 
 module _ (last : List Check) where
   first-in-turn : (checks : List Check) (lists : List (List Check)) →
@@ -195,8 +192,8 @@ module _ (last : List Check) where
 
 pub call-refusal : (c : Call) → refusedBy c ≡ inTurn (checksOf c)
 unfolding wordsAnswer rowSumsAnswer strengthAnswer resolutionAnswer generalizedAnswer chartAnswer adviceAnswer wordAnswer figureAnswer turnsAnswer
-    setWordAnswer tableAnswer compareAnswer diagonalAnswer openAnswer writeAnswer callAnswer heldText textRefusal readRefusal listingAnswer
-    rewriteAnswer rewriteRefusal leftOf placeAnswer setAnswer occursAnswer alikeAnswer
+    setWordAnswer tellAnswer tableAnswer diagonalAnswer openAnswer writeAnswer callAnswer heldText textRefusal readRefusal listingAnswer
+    rewriteAnswer rewriteRefusal leftOf markedWritten placeAnswer setAnswer occursAnswer alikeAnswer
 call-refusal (asked s words) = refl
 call-refusal (asked s row-sums) = refl
 call-refusal (asked s strength) = refl
@@ -208,14 +205,11 @@ call-refusal (asked s (word j)) = refl
 call-refusal (asked s (figure i)) = refl
 call-refusal (asked s (turns k)) = refl
 call-refusal (asked s (set-word f I)) = refl
+call-refusal (asked s (tell i J)) = refl
 call-refusal (asked s (table relative f rooms)) = refl
 call-refusal (compared s t) =
-    let p = planAsked s in
-    let q = planAsked t in
-    let xs = patternOf p (runsAsked s) in
-    let ys = patternOf q (runsAsked t) in
-    sides-in-turn (refusal (begins s [])) (refusal (begins t [])) (verdictOf (columns p) xs (columns q) ys) (verdict-accepted (columns p) (columns q) xs ys)
-    (passed-accepted (begins t []) (begins-known t [] tt))
+    ap (λ (x : Says). x .refused) (comparison-says (begins s) (planAsked s) (runsAsked s) (begins t) (planAsked t) (runsAsked t))
+    ∙ sides-in-turn (refusal (begins s [])) (refusal (begins t [])) (passed-accepted (begins t []) (begins-known t [] tt))
 call-refusal (levels-checked p) = refl
 call-refusal (plan-checked p) = refl
 call-refusal (diagonal p) = refl
@@ -231,8 +225,9 @@ call-refusal (refusal-listed text) = refl
 call-refusal (rewritten text lost a b) =
     let last = textChecks (leftOf text lost .held) a b in
     let h = openAnswer (planOf text) .held in
-    sym (first-in-turn last (readChecks text mostColumns 6144) (strikeChecks h lost)
-    ∙ ap (orElse (readRefusal text mostColumns 6144)) (strikes-in-turn last h lost))
+    sym (first-in-turn last (readChecks text mostColumns mostEntries) (strikeChecks h lost)
+    ∙ ap (orElse (readRefusal text mostColumns mostEntries)) (strikes-in-turn last h lost))
+call-refusal (tell-marked p marks a J room) = refl
 call-refusal (placed m f I) = refl
 call-refusal (set-at m f k) = refl
 

@@ -1,7 +1,5 @@
 -- Worked figures: what a C program gets of 16 bytes written, of none, and of refusals 7 and 14.
-use mathlib.Core.Path.{_≡_, refl}
-use mathlib.Core.List.{[], _∷_}
-use lib.IntN.{pos, negsuc}
+use Rattle.exact.proofs.Ground.{[], _∷_, _≡_, refl, pos, negsuc}
 use Rattle.rules.specs.Refusals.{accepted, plain, placed, numberOr}
 
 pub number-or-refusals :

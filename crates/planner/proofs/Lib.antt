@@ -1,3 +1,5 @@
 pub mod Answers
 pub mod Figures
+pub mod Starred
 pub mod Calls
+pub mod Refused

@@ -5,19 +5,18 @@ use mathlib.Core.List.{List, [], _∷_, _++_}
 use Prim.Native.Nat.{ℕ}
 use lib.ListN.{length}
 use Rattle.rules.specs.declared.Refusal.{Refusal}
-use Rattle.rules.specs.Plan.{Plan, columns, runs, level, everyRun, mostColumns}
+use Rattle.rules.specs.Plan.{Plan, columns, runs, level, everyRun, mostColumns, mostEntries}
 use Rattle.rules.specs.Refusals.{Check, refusal, accepted, orElse, levelChecks, planChecks, ofPlan, badPlace, badLength, badRoom, tooLong, malformed}
 use Rattle.sets.specs.Sets.{placeChecks, placeAnswer, setChecks, setAnswer}
 use Rattle.survey.specs.Survey.{occursAnswer, alikeAnswer}
 use Rattle.words.specs.Answers.{wordsAnswer, wordAnswer, rowSumsAnswer, diagonalAnswer}
 use Rattle.counts.specs.Counts.{strengthAnswer}
-use Rattle.projections.specs.Projections.{setWordChecks, setWordAnswer}
-use Rattle.frequencies.specs.Frequencies.{Rooms, tableIn, tableChecks, tableAnswer}
+use Rattle.set_words.specs.SetWords.{setWordChecks, setWordAnswer}
+use Rattle.projection_tables.specs.Tables.{Rooms, tableIn, tableChecks, tableAnswer}
 use Rattle.resolution.specs.Resolution.{resolutionChecks, resolutionAnswer, generalizedAnswer}
 use Rattle.resolution.specs.Charts.{columnChecks, chartAnswer, figureAnswer}
-use Rattle.compare.specs.declared.Comparison.{Comparison}
-use Rattle.compare.specs.declared.Comparison.the-variants.{Compared, NotComparable, Refused}
-use Rattle.compare.specs.Compare.{compareAnswer}
+use Rattle.tell.specs.Answer.{tellChecks, tellAnswer}
+use Rattle.compare.specs.Compare.{comparisonSays, compareAnswer}
 use Rattle.advice.specs.Advice.{adviceChecks, adviceAnswer, turnsChecks, turnsAnswer}
 use Rattle.held.specs.declared.Held.{Held}
 use Rattle.held.specs.Held.{marksIn, planIn, standingIn, ofStanding, openAnswer, strikes, callChecks, callAnswer}
@@ -25,8 +24,9 @@ use Rattle.held.specs.Held as held
 use Rattle.text.specs.Text.{malformedLine, planOf}
 use Rattle.text.specs.Reader.{roomChecks, readAnswer}
 use Rattle.writer.specs.Writer.{badTextRoom, writeAnswer}
-use Rattle.handover.specs.Handover.{textIn, heldText, leftOf, rewriteAnswer}
-use Rattle.report.specs.Listing.{listingChecks, listing, listingAnswer}
+use Rattle.standing_text.specs.StandingText.{textIn, heldText, leftOf, rewriteAnswer}
+use Rattle.listing_lines.specs.Listing.{listingChecks, listing, listingAnswer}
+use Rattle.tell_marked.specs.TellMarked.{markedChecks, markedWritten}
 
 -- ---- questions
 
@@ -51,7 +51,7 @@ begins (of-held h) checks = ofStanding h checks
 pub data Question : Type 0 where
   words row-sums strength resolution generalized charted advice : Question
   word figure turns : ℕ → Question
-  set-word : ℕ → List ℕ → Question
+  set-word tell : ℕ → List ℕ → Question
   table : Bool → ℕ → Rooms → Question
 
 -- its own checks
@@ -67,6 +67,7 @@ own p rs (word j) = badLength (columns p) j ∷ []
 own p rs (figure i) = columnChecks p rs i
 own p rs (turns k) = turnsChecks k rs
 own p rs (set-word f I) = setWordChecks p f I
+own p rs (tell i J) = tellChecks p i J
 own p rs (table relative f rooms) = tableChecks (columns p) f (tableIn relative p rs f) rooms
 
 -- the refusal in its answer
@@ -82,6 +83,7 @@ answered p rs start (word j) = wordAnswer p rs start j .refused
 answered p rs start (figure i) = figureAnswer p rs start i .refused
 answered p rs start (turns k) = turnsAnswer p rs start k .refused
 answered p rs start (set-word f I) = setWordAnswer p rs start f I .refused
+answered p rs start (tell i J) = tellAnswer p rs start i J .refused
 answered p rs start (table relative f rooms) = tableAnswer start (columns p) f (tableIn relative p rs f) rooms .refused
 
 -- ---- calls
@@ -103,6 +105,8 @@ pub data Call : Type 0 where
   listed : List ℕ → List ℕ → Call
   refusal-listed : List ℕ → Call
   rewritten : List ℕ → List ℕ → ℕ → ℕ → Call
+  -- of a plan with a mark for each run
+  tell-marked : Plan → List ℕ → ℕ → List ℕ → List ℕ → Call
   -- of sets of columns
   placed : ℕ → ℕ → List ℕ → Call
   set-at : ℕ → ℕ → ℕ → Call
@@ -140,20 +144,15 @@ checksOf (read text room other) = readChecks text (length room) (length other) �
 checksOf (listed text room) = (badRoom (length (listing text)) (length room) ∷ []) ∷ []
 checksOf (refusal-listed text) = listingChecks text ∷ []
 checksOf (rewritten text lost a b) =
-    readChecks text mostColumns 6144 ∷ strikeChecks (openAnswer (planOf text) .held) lost ++ textChecks (leftOf text lost .held) a b ∷ []
+    readChecks text mostColumns mostEntries ∷ strikeChecks (openAnswer (planOf text) .held) lost ++ textChecks (leftOf text lost .held) a b ∷ []
+checksOf (tell-marked p marks a J room) = markedChecks p marks a J room ∷ []
 checksOf (placed m f I) = placeChecks m f I ∷ []
 checksOf (set-at m f k) = setChecks m f k ∷ []
-
--- the refusal in a comparison
-abbrev pub refusedIn : Comparison → Refusal
-refusedIn (Compared v) = accepted
-refusedIn NotComparable = accepted
-refusedIn (Refused k r) = r
 
 -- the refusal in the answer of a call
 abbrev pub refusedBy : Call → Refusal
 refusedBy (asked s q) = answered (planAsked s) (runsAsked s) (begins s) q
-refusedBy (compared s t) = refusedIn (compareAnswer (begins s) (planAsked s) (runsAsked s) (begins t) (planAsked t) (runsAsked t))
+refusedBy (compared s t) = comparisonSays (compareAnswer (begins s) (planAsked s) (runsAsked s) (begins t) (planAsked t) (runsAsked t)) .refused
 refusedBy (levels-checked p) = refusal (levelChecks p)
 refusedBy (plan-checked p) = refusal (planChecks p)
 refusedBy (diagonal p) = diagonalAnswer p .refused
@@ -167,6 +166,7 @@ refusedBy (read text room other) = readAnswer text room other .refused
 refusedBy (listed text room) = listingAnswer text room .refused
 refusedBy (refusal-listed text) = refusal (listingChecks text)
 refusedBy (rewritten text lost a b) = rewriteAnswer text lost a b .refused
+refusedBy (tell-marked p marks a J room) = markedWritten p marks a J room .refused
 refusedBy (placed m f I) = placeAnswer m f I .refused
 refusedBy (set-at m f k) = setAnswer m f k .refused
 

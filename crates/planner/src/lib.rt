@@ -1,5 +1,6 @@
 // What a C program links: functions on slices of bytes and of run numbers, and on numbers (include/crumbchorus.h).
 use exact::signed;
+use tell_lines::Written;
 ghost use mathlib.Core.Path.{_≡_};
 ghost use lib.IntN.{pos};
 ghost use lib.ListN.{length};
@@ -8,8 +9,9 @@ ghost use Rattle.rules.specs.Refusals.{ofPlan, numberOr};
 ghost use Rattle.words.specs.Answers.{plannerWord};
 ghost use Rattle.text.specs.Reader.{filled};
 ghost use Rattle.writer.specs.Writer.{writeText, writeAnswer};
-ghost use Rattle.handover.specs.Handover.{rewriteAnswer, rewritten, runsLeft};
-ghost use Rattle.report.specs.Listing.{plannerListing, listingRoom};
+ghost use Rattle.standing_text.specs.StandingText.{rewriteAnswer, rewritten, runsLeft};
+ghost use Rattle.listing_lines.specs.Listing.{plannerListing, listingRoom};
+ghost use Rattle.tell_marked.specs.TellMarked.{tellNumber, tellRoom};
 ghost use Rattle.planner.specs.Exports.{version};
 
 // The version of this library, as the header writes it.
@@ -17,7 +19,7 @@ ghost use Rattle.planner.specs.Exports.{version};
 pub extern "C" fn crumb_version() -> u64
     ensures { λ r. ⌜ r ≡ version ⌝ }
 {
-    800
+    900
 }
 
 // The scaled word of one length, or the refusal number negated.
@@ -36,7 +38,7 @@ pub extern "C" fn crumb_listing(text: &[u8], room: &mut [u8]) -> i64
     ensures answer { λ r. ⌜ r ≡ plannerListing (now (text .entry)) (now (room .entry)) ⌝ }
     ensures room { λ r. ⌜ now (room .exit) ≡ listingRoom (now (text .entry)) (now (room .entry)) ⌝ }
 {
-    let listed = report::listing(text, room);
+    let listed = listing_lines::listing(text, room);
     let refused = listed.refused;
     refused.number_or(signed::of_size(listed.bytes))
 }
@@ -56,6 +58,34 @@ pub extern "C" fn crumb_write(levels: &[u8], table: &[u8], room: &mut [u8]) -> i
     refused.number_or(signed::of_size(written.bytes))
 }
 
+// Whether the runs that stand can tell the column from the others acting together: the lines of the answer into the lent room. The number
+// of bytes, or the refusal number negated.
+#[no_mangle]
+pub extern "C" fn crumb_tell(
+    levels: &[u8],
+    table: &[u8],
+    standing: &[u8],
+    column: u64,
+    others: &[usize],
+    room: &mut [u8],
+) -> i64
+    ensures answer { λ r. ⌜ (let p = plan (now (levels .entry)) (now (table .entry)) in
+        r ≡ tellNumber p (now (standing .entry)) column (now (others .entry)) (now (room .entry))) ⌝ }
+    ensures room { λ _. ⌜ (let p = plan (now (levels .entry)) (now (table .entry)) in
+        now (room .exit) ≡ tellRoom p (now (standing .entry)) column (now (others .entry)) (now (room .entry))) ⌝ }
+{
+    let told: Written = tell_marked::tell_marked(
+        levels,
+        table,
+        standing,
+        column as usize,
+        others,
+        room,
+    );
+    let refused = told.refused;
+    refused.number_or(signed::of_size(told.bytes))
+}
+
 // The text of a plan without its lost runs, and the original numbers of the runs left, each into its lent room: the number of bytes,
 // or the refusal number negated.
 #[no_mangle]
@@ -72,7 +102,7 @@ pub extern "C" fn crumb_rewrite(
     ensures numbers { λ _. ⌜ (let a = rewriteAnswer (now (text .entry)) (now (lost .entry)) (length (now (room .entry))) (length (now (numbers .entry))) in
         now (numbers .exit) ≡ filled (a .refused) (runsLeft (now (text .entry)) (now (lost .entry))) (now (numbers .entry))) ⌝ }
 {
-    let left = handover::rewrite(text, lost, room, numbers);
+    let left = standing_text::rewrite(text, lost, room, numbers);
     let refused = left.refused;
     refused.number_or(signed::of_size(left.bytes))
 }

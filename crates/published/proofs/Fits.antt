@@ -1,17 +1,11 @@
 -- What is answered fits its rooms, in a refusal too: the lines of a table.
-use mathlib.Core.Path.{_≡_, refl}
-use mathlib.Core.Bool.{Bool, true, false, cond, not}
-use mathlib.Core.List.{List, List·Memᴰ·head, List·Memᴰ·tail, Memᴰ·append-right}
-use Prim.Native.Nat.{ℕ, _≤_}
-use native.Mathlib.Omega.{arith}
-use borrow.Author.Tests.{eqb-true, ltb-false}
-use lib.Dec.{eqb}
-use lib.ListN.{length}
+use Rattle.exact.proofs.Ground.{true, false, Bool, cond, not, List, List·Memᴰ·head, List·Memᴰ·tail, Memᴰ·append-right, _≡_, refl, ℕ, _≤_, arith, eqb}
+use Rattle.exact.proofs.Ground.{length, eqb-true, ltb-false}
 use Rattle.rules.specs.Plan.{Plan, columns}
 use Rattle.rules.specs.Refusals.{Check, refusal, ofPlan, planChecks, badRoom}
 use Rattle.rules.proofs.Order.{passed-none}
-use Rattle.frequencies.specs.declared.TableAnswer.{TableAnswer}
-use Rattle.frequencies.specs.Frequencies.{Line, Rooms, shortest, tableRefusal, tableAnswer}
+use Rattle.projection_tables.specs.declared.TableAnswer.{TableAnswer}
+use Rattle.projection_tables.specs.Tables.{Line, Rooms, shortest, tableRefusal, tableAnswer}
 
 -- no more lines than the shortest room has places
 pub lines-fit : (p : Plan) (f : ℕ) (ls : List Line) (R : Rooms) {r : TableAnswer} → r ≡ tableAnswer (ofPlan p) (columns p) f ls R →

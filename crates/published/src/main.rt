@@ -13,14 +13,12 @@ use figures::generalized;
 use lines::put;
 use lines::refusal_line;
 use rules::sizes::MOST_COLUMNS;
+use rules::sizes::MOST_ENTRIES;
 use tables::tables;
 
 mod figures;
 mod lines;
 mod tables;
-
-// 256 runs of 24 columns.
-const MOST_ENTRIES: usize = 6144;
 
 fn show_plan(name: &[u8], levels: &[u8], table: &[u8]) {
     put(b"array ");

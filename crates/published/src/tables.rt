@@ -1,7 +1,7 @@
 // The projection frequency tables of an array, absolute and relative.
 use crate::lines::line;
 use crate::lines::refusal_line;
-use frequencies::TableAnswer;
+use projection_tables::TableAnswer;
 ghost use Prim.Native.Nat.{_≤_};
 
 // Of the 10,626 lines that a table can have, none of these arrays has more. One that had would print refusal 7.
@@ -31,7 +31,7 @@ fn absolute(levels: &[u8], table: &[u8], f: usize) {
     let mut nums = [0u64; MOST_LINES];
     let mut dens = [0u64; MOST_LINES];
     let mut counts = [0u64; MOST_LINES];
-    let answer = frequencies::absolute(levels, table, f, &mut nums, &mut dens, &mut counts);
+    let answer = projection_tables::absolute(levels, table, f, &mut nums, &mut dens, &mut counts);
     table_lines(b"absolute", f, answer, &nums, &dens, &counts);
 }
 
@@ -39,7 +39,7 @@ fn relative(levels: &[u8], table: &[u8], f: usize) {
     let mut nums = [0u64; MOST_LINES];
     let mut dens = [0u64; MOST_LINES];
     let mut counts = [0u64; MOST_LINES];
-    let answer = frequencies::relative(levels, table, f, &mut nums, &mut dens, &mut counts);
+    let answer = projection_tables::relative(levels, table, f, &mut nums, &mut dens, &mut counts);
     table_lines(b"relative", f, answer, &nums, &dens, &counts);
 }
 

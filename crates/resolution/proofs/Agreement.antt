@@ -1,13 +1,5 @@
 -- Resolution and strength say the same, and a set of R columns has at most n²(s - 1), whatever the runs and the columns: levels from 1 up.
-use mathlib.Core.Path.{_≡_, sym, subst}
-use mathlib.Core.List.{List, List·Memᴰ}
-use Prim.Native.Nat.{ℕ, zero, suc}
-use native.Mathlib.Omega.{arith}
-use borrow.Author.Tests.{lt-ltb}
-use lib.Dec.{T}
-use lib.IntN.{ℤ, pos, _-ℤ_, _*ℤ_}
-use lib.ListN.{length}
-use lib.Signed.{ltZ, _≤ℤ_}
+use Rattle.exact.proofs.Ground.{List, List·Memᴰ, _≡_, sym, subst, ℕ, suc, zero, arith, T, pos, ℤ, _*ℤ_, _-ℤ_, length, _≤ℤ_, ltZ, lt-ltb}
 use Rattle.exact.proofs.Numbers.{mem-from}
 use Rattle.exact.proofs.Order.{is-pos}
 use Rattle.rules.specs.Plan.{Plan, columns, level, entry, everyColumn}
@@ -19,7 +11,7 @@ use Rattle.words.proofs.Positive.{word-nonneg}
 use Rattle.counts.specs.Counts.{strength}
 use Rattle.parts.specs.Parts.{NoneShorter}
 use Rattle.counts.proofs.Balance.{strength-is}
-use Rattle.counts.proofs.Even.{AllBelow}
+use Rattle.words.specs.Entries.{AllBelow}
 use Rattle.counts.proofs.Wordless.{resolution-strength}
 use Rattle.parts.proofs.OnlyWord.{chosen-only, only-ceiling}
 use Rattle.resolution.specs.Resolution.{resolution, resolutionIn}

@@ -1,11 +1,5 @@
 -- The answers that are made of a rating, or of words, behind the refusal r that a call begins with: they are those of the definitions.
-use mathlib.Core.Path.{_≡_, refl, sym, _∙_, ap}
-use mathlib.Core.Bool.{Bool, true, false, cond}
-use mathlib.Core.List.{List, [], _∷_}
-use Prim.Native.Nat.{ℕ, _≤_}
-use native.Mathlib.Decide.{ℕ-discrete}
-use borrow.Author.Tests.{lt-ltb, eq-eqb, ne-eqb}
-use lib.IntN.{ℤ}
+use Rattle.exact.proofs.Ground.{true, false, Bool, cond, List, [], _∷_, _≡_, _∙_, sym, ap, refl, ℕ, _≤_, ℕ-discrete, ℤ, ne-eqb, eq-eqb, lt-ltb}
 use Rattle.rules.specs.Plan.{Plan, columns}
 use Rattle.rules.specs.Refusals.{Check, refusal, refuses, unless, orElse, noResolution}
 use Rattle.rules.specs.declared.Refusal.{Refusal}
@@ -13,7 +7,7 @@ use Rattle.resolution.specs.Resolution.{resolutionIn, resolutionChecks, 
 use Rattle.resolution.specs.Charts.{chartOf, chartAnswer, columnChecks, figureAnswer}
 use Rattle.resolution.specs.Given.{Measured, firstAbove, refusing, measures, measuresBeside, ratingBeside}
 use Rattle.resolution.specs.Given.{generalizedFrom, chartFrom, figureFrom, resolutionFrom}
-use Rattle.resolution.specs.declared.inner.Rating.{Rating}
+use Rattle.resolution.specs.declared.routines.Rating.{Rating}
 use Rattle.resolution.specs.declared.ResolutionAnswer.{ResolutionAnswer}
 use Rattle.resolution.proofs.Rated.{found}
 

@@ -1,13 +1,6 @@
 -- The largest ratio is at most 1, so that no plan is refused for one above it.
-use mathlib.Core.Path.{_≡_, sym, subst}
-use mathlib.Core.Bool.{Bool, true, false, cond}
-use mathlib.Core.List.{List, map, List·Memᴰ, Memᴰ·of-map}
-use Prim.Native.Nat.{ℕ, _*_, _-_, _≤_}
-use native.Mathlib.Omega.{arith}
-use borrow.Author.Tests.{le-ltb}
-use lib.IntN.{ℤ, pos, natAbs, _-ℤ_, _*ℤ_}
-use lib.ListN.{length, length-map}
-use lib.Signed.{_≤ℤ_}
+use Rattle.exact.proofs.Ground.{true, false, Bool, cond, List, map, List·Memᴰ, Memᴰ·of-map, _≡_, sym, subst, ℕ, _≤_, _-_, _*_, arith, pos, ℤ, natAbs}
+use Rattle.exact.proofs.Ground.{_*ℤ_, _-ℤ_, length, length-map, _≤ℤ_, le-ltb}
 use Rattle.exact.specs.Lists.{smallest, holds}
 use Rattle.exact.specs.Fractions.{zeroFraction, reduced}
 use Rattle.exact.specs.declared.fractions.Fraction.{Fraction}
@@ -19,9 +12,9 @@ use Rattle.sets.proofs.Parts.{part-mem, choose-part}
 use Rattle.plan.specs.Good.{Sound}
 use Rattle.words.specs.Words.{wordOf}
 use Rattle.words.proofs.Positive.{wordOf-nonneg}
-use Rattle.counts.proofs.Even.{AllBelow}
-use Rattle.projections.specs.Projections.{relativeOf}
-use Rattle.projections.proofs.Values.{smallest-mem}
+use Rattle.words.specs.Entries.{AllBelow}
+use Rattle.set_words.specs.SetWords.{relativeOf}
+use Rattle.set_words.proofs.Values.{smallest-mem}
 use Rattle.resolution.specs.Resolution.{resolution, largestRatio, ratioIn}
 use Rattle.resolution.proofs.Resolved.{resolution-is}
 use Rattle.resolution.proofs.Greatest.{greatest-of}

@@ -1,13 +1,11 @@
--- Document 01, "Worked figures" and the listing: a table of plans with the paper's answers, and one statement over it.
-use mathlib.Core.Path.{_≡_, refl}
-use mathlib.Core.List.{List, [], _∷_, map}
-use Prim.Native.Nat.{ℕ}
+-- Worked figures: R and GR of the listing's plan, a column's figure, columns of one level. The starred ones stand in `planner` Starred.
+use Rattle.exact.proofs.Ground.{List, [], _∷_, map, _≡_, refl, ℕ}
 use Rattle.exact.specs.Fractions.{gcd, reduced, smallerFraction}
 use Rattle.rules.specs.Plan.{Plan, plan, everyRun}
 use Rattle.rules.specs.Refusals.{ofPlan, firstBadLevel, firstBadEntry}
 use Rattle.words.specs.Words.{score, wordOf, word}
-use Rattle.projections.specs.Projections.{relativeOf}
-use Rattle.projections.proofs.Printed.{listed, graded}
+use Rattle.set_words.specs.SetWords.{relativeOf}
+use Rattle.set_words.proofs.Printed.{listed, graded}
 use Rattle.resolution.specs.Resolution.{greatest, rootOf, resolution, largestRatio, resolutionAnswer, generalizedAnswer}
 use Rattle.resolution.specs.Charts.{columnRatio, figureAnswer}
 use Rattle.resolution.specs.declared.Figure.{Figure}
@@ -40,26 +38,16 @@ record Row : Type 0 where
 abbrev is : Question → List ℕ → Row
 is q a = record { question = q; answer = a }
 
--- levels 2,2,2, runs 000 011 101 110
-abbrev half : Plan
-half = plan (2 ∷ 2 ∷ 2 ∷ []) (0 ∷ 0 ∷ 0 ∷ 0 ∷ 1 ∷ 1 ∷ 1 ∷ 0 ∷ 1 ∷ 1 ∷ 1 ∷ 0 ∷ [])
-
--- levels 3,2, all six runs, and one run
+-- levels 3,2, all six runs
 abbrev full : Plan
 full = plan (3 ∷ 2 ∷ []) (0 ∷ 0 ∷ 0 ∷ 1 ∷ 1 ∷ 0 ∷ 1 ∷ 1 ∷ 2 ∷ 0 ∷ 2 ∷ 1 ∷ [])
 
-abbrev one : Plan
-one = plan (3 ∷ 2 ∷ []) (0 ∷ 0 ∷ [])
-
 abbrev figures : List Row
 figures =
-    is (generalized half) (0 ∷ 3 ∷ 1 ∷ 1 ∷ 3000 ∷ [])
-    ∷ is (generalized full) (11 ∷ 0 ∷ 0 ∷ 0 ∷ 0 ∷ [])
+    is (generalized listed) (0 ∷ 1 ∷ 1 ∷ 9 ∷ 1666 ∷ [])
+    ∷ is (resolved listed) (0 ∷ 1 ∷ [])
     ∷ is (resolved full) (11 ∷ 0 ∷ [])
-    ∷ is (generalized one) (0 ∷ 1 ∷ 1 ∷ 1 ∷ 1000 ∷ [])
-    ∷ is (resolved one) (0 ∷ 1 ∷ [])
-    ∷ is (generalized listed) (0 ∷ 1 ∷ 1 ∷ 9 ∷ 1666 ∷ [])
-    -- not of the paper: column 0 of the listing's plan has the ratio 1/9, column 1 is clear, and there is no column 2; 8 ahead of 11
+    -- column 0 of the listing's plan has the ratio 1/9, column 1 is clear, and there is no column 2; 8 ahead of 11
     ∷ is (column listed 0) (0 ∷ 0 ∷ [])
     ∷ is (column listed 1) (0 ∷ 1 ∷ [])
     ∷ is (column listed 2) (8 ∷ 1 ∷ [])

@@ -1,17 +1,17 @@
 -- The greatest fraction is one of them, or 0/1, and none of them is greater. One fraction more is one comparison.
-use mathlib.Core.Path.{_≡_, refl, sym, _∙_, subst}
-use mathlib.Core.Bool.{Bool, true, false, cond}
-use mathlib.Core.Logic.{_⊎_, inl, inr}
-use mathlib.Core.List.{List, [], _∷_, _++_, List·Memᴰ, List·Memᴰ·head, List·Memᴰ·not-nil}
-use mathlib.Core.List.{List·Memᴰ·append-cases, List·Memᴰ·eq-of-singleton, Memᴰ·append-left, Memᴰ·append-right}
-use Prim.Native.Nat.{_<_}
-use native.Mathlib.Omega.{arith}
+use Rattle.exact.proofs.Ground.{true, false, Bool, cond, List, [], _∷_, _++_, List·Memᴰ, List·Memᴰ·head, List·Memᴰ·not-nil, Memᴰ·append-left}
+use Rattle.exact.proofs.Ground.{Memᴰ·append-right, List·Memᴰ·append-cases, List·Memᴰ·eq-of-singleton, _⊎_, inl, inr, _≡_, _∙_, sym, ap, refl, subst}
+use Rattle.exact.proofs.Ground.{_<_, _*_, arith}
 use Rattle.exact.specs.Fractions.{zeroFraction, smallerFraction, isBetter}
 use Rattle.exact.specs.declared.fractions.Fraction.{Fraction}
 use Rattle.exact.specs.declared.fractions.Verdict.{Verdict}
 use Rattle.exact.specs.declared.fractions.Verdict.the-variants.{Better, Worse, Equal}
 use Rattle.exact.proofs.Lists.{grown}
 use Rattle.exact.proofs.Lawful.{fractions}
+use Rattle.exact.specs.Lawful.{opposite}
+use Rattle.exact.proofs.Verdicts.{lt-smaller}
+use Rattle.set_words.specs.Properties.{IsReduced}
+use Rattle.set_words.proofs.Reduced.{zero-reduced, equal-reduced}
 use Rattle.resolution.specs.Resolution.{greater, greatestFrom, greatest}
 use Rattle.resolution.specs.Properties.{IsGreatest}
 
@@ -103,3 +103,39 @@ greatest-of P xs z =
     rw (greatest-snoc xs x)
     (greater-of P (greatest xs) x (ih (λ y m. h y (Memᴰ·append-left (x ∷ []) m))) (h x (Memᴰ·append-right xs (List·Memᴰ·head refl)))))
     xs
+
+-- ---- and it is told by that: of fractions in lowest terms there is only one
+
+module _ (xs : List Fraction) (reduced : (x : Fraction) → List·Memᴰ x xs → IsReduced x) where
+  greatest-reduced : (g : Fraction) → IsGreatest xs g → IsReduced g
+  greatest-reduced g G = go (G .among)
+    where
+      go : (g ≡ zeroFraction) ⊎ List·Memᴰ g xs → IsReduced g
+      go (inl e) = subst IsReduced (sym e) zero-reduced
+      go (inr m) = reduced g m
+
+  -- nothing is smaller than 0/1
+  none-above-zero : (g : Fraction) → ¬ (smallerFraction g zeroFraction ≡ Better)
+  unfolding smallerFraction
+  none-above-zero g e = let l = lt-smaller (g .num * 1) (0 * g .den) e in omega arith
+
+  not-above : (g h : Fraction) → IsGreatest xs g → IsGreatest xs h → ¬ (smallerFraction g h ≡ Better)
+  not-above g h G H = go (H .among)
+    where
+      go : (h ≡ zeroFraction) ⊎ List·Memᴰ h xs → ¬ (smallerFraction g h ≡ Better)
+      go (inl e) = subst (λ z. ¬ (smallerFraction g z ≡ Better)) (sym e) (none-above-zero g)
+      go (inr m) = G .none-above h m
+
+  pub greatest-unique : (g h : Fraction) → IsGreatest xs g → IsGreatest xs h → g ≡ h
+  greatest-unique g h G H = go (smallerFraction g h) refl
+    where
+      R : IsReduced g
+      R = greatest-reduced g G
+
+      S : IsReduced h
+      S = greatest-reduced h H
+
+      go : (v : Verdict) → smallerFraction g h ≡ v → g ≡ h
+      go Better e = absurd (not-above g h G H e)
+      go Worse e = absurd (not-above h g H G (fractions .turn g h (R .above-zero) (S .above-zero) ∙ ap opposite e))
+      go Equal e = equal-reduced g h R S e

@@ -5,6 +5,8 @@ pub mod Resolved
 pub mod Agreement
 pub mod AtMostOne
 pub mod Walk
+pub mod Ratio
+pub mod Cases
 pub mod Rated
 pub mod Answered
 pub mod OneLevel

@@ -1,12 +1,6 @@
 -- A column of one level has no part in a largest ratio: the sets that hold it have the value 0/1, which is never the greater. It is clear.
-use mathlib.Core.Path.{_≡_, refl, sym, _∙_, ap, ap₂, subst}
-use mathlib.Core.Bool.{Bool, true, false, cond}
-use mathlib.Core.List.{List, [], _∷_, map, List·Memᴰ, List·Memᴰ·head, List·Memᴰ·tail, Memᴰ·map, Memᴰ·of-map}
-use Prim.Native.Nat.{ℕ, _*_, _≤_, _<_}
-use native.Mathlib.Nat.{zero-mul}
-use native.Mathlib.Omega.{arith}
-use borrow.Author.Tests.{le-ltb}
-use lib.Dec.{ltb}
+use Rattle.exact.proofs.Ground.{true, false, Bool, cond, List, [], _∷_, map, List·Memᴰ, List·Memᴰ·head, List·Memᴰ·tail, Memᴰ·of-map, Memᴰ·map, _≡_}
+use Rattle.exact.proofs.Ground.{_∙_, sym, ap, refl, ap₂, subst, ℕ, _≤_, _<_, _*_, zero-mul, arith, ltb, le-ltb}
 use Rattle.exact.specs.Lists.{all, keep, holds}
 use Rattle.exact.specs.Fractions.{zeroFraction, smallerFraction, isBetter}
 use Rattle.exact.specs.declared.fractions.Fraction.{Fraction}
@@ -18,8 +12,8 @@ use Rattle.rules.specs.Plan.{Plan, columns, level, entry, everyColumn, several}
 use Rattle.sets.specs.Sets.{choose, setsOf}
 use Rattle.sets.proofs.Choose.{choose-keep}
 use Rattle.words.proofs.OneLevel.{holds-one}
-use Rattle.projections.specs.Projections.{relativeOf}
-use Rattle.projections.proofs.Values.{relative-one}
+use Rattle.set_words.specs.SetWords.{relativeOf}
+use Rattle.set_words.proofs.Values.{relative-one}
 use Rattle.resolution.specs.Resolution.{greater, greatestFrom, greatest, resolutionIn}
 use Rattle.resolution.specs.Given.{ratiosOf}
 use Rattle.resolution.specs.Charts.{figureOf, columnRatio}

@@ -1,13 +1,6 @@
 -- A rating of some runs by the check 11, what the routine finds of it, and that its numbers are small.
-use mathlib.Core.Path.{_≡_, refl, sym, _∙_, ap}
-use mathlib.Core.Bool.{Bool, true, false, cond}
-use mathlib.Core.List.{List}
-use Prim.Native.Nat.{ℕ, _+_, _*_, _≤_, _<_, _^_}
-use native.Mathlib.Decide.{decLe, ℕ-discrete}
-use native.Mathlib.Omega.{arith}
-use borrow.Author.Tests.{lt-ltb, le-ltb, le-leb, lt-leb, ne-eqb}
-use lib.IntN.{ℤ, natAbs}
-use lib.ListN.{length}
+use Rattle.exact.proofs.Ground.{true, false, Bool, cond, List, _≡_, _∙_, sym, ap, refl, ℕ, _≤_, _<_, _+_, _*_, _^_, ℕ-discrete, decLe, arith, ℤ}
+use Rattle.exact.proofs.Ground.{natAbs, length, ne-eqb, le-ltb, lt-ltb, le-leb, lt-leb}
 use Rattle.exact.specs.Lists.{keep, holds}
 use Rattle.exact.proofs.Numbers.{length-from, mul-below}
 use Rattle.exact.proofs.Members.{keep-mem}
@@ -20,16 +13,16 @@ use Rattle.words.specs.Words.{word}
 use Rattle.words.specs.Answers.{wordList}
 use Rattle.words.proofs.OfPlan.{word-small, word-none}
 use Rattle.words.proofs.Answered.{word-at}
-use Rattle.projections.specs.Given.{Tabled}
-use Rattle.projections.proofs.Products.{part-projection}
+use Rattle.set_words.specs.Given.{Tabled}
+use Rattle.set_words.proofs.Products.{part-projection}
 use Rattle.resolution.specs.Resolution.{resolutionIn, ratioIn, resolutionChecks, largestRatio}
 use Rattle.resolution.specs.Charts.{columnRatio, columnChecks}
 use Rattle.resolution.specs.Given.{Measured, wordIn, firstAbove, ratiosOf, refusing, measures, measuresBeside, ratingBeside, Small}
 use Rattle.resolution.proofs.Resolved.{resolution-is, resolution-words}
 use Rattle.resolution.proofs.Walk.{ratios-small}
 use Rattle.resolution.proofs.AtMostOne.{ratio-at-most-one}
-use Rattle.resolution.specs.declared.inner.Rating.{Rating}
-use Rattle.resolution.specs.declared.inner.Ratios.{Ratios}
+use Rattle.resolution.specs.declared.routines.Rating.{Rating}
+use Rattle.resolution.specs.declared.routines.Ratios.{Ratios}
 
 -- ---- the words of a list, whatever the length
 

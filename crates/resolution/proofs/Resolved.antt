@@ -1,12 +1,5 @@
 -- The resolution is the smallest length from 1 whose word is above zero, and the search over the list of words finds it.
-use mathlib.Core.Path.{_≡_, refl, sym, _∙_, ap}
-use mathlib.Core.Bool.{Bool}
-use mathlib.Core.List.{List}
-use Prim.Native.Nat.{ℕ, zero, suc, _+_, _≤_, _<_}
-use native.Mathlib.Omega.{arith}
-use lib.IntN.{pos}
-use lib.ListN.{length}
-use lib.Signed.{ltZ}
+use Rattle.exact.proofs.Ground.{Bool, List, _≡_, _∙_, sym, ap, refl, ℕ, _≤_, _<_, _+_, suc, zero, arith, pos, length, ltZ}
 use Rattle.exact.specs.Lists.{first}
 use Rattle.exact.proofs.Numbers.{length-from}
 use Rattle.exact.proofs.Searches.{IsFirst, first-is, first-unique}

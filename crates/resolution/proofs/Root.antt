@@ -1,12 +1,7 @@
 -- q is the smallest whole number for which q² · den is at least 1,000,000 · num; so GR in thousandths is never above the exact GR, and is less
 -- than one thousandth below it.
-use mathlib.Core.Path.{_≡_, refl, subst}
-use mathlib.Core.Bool.{Bool}
-use Prim.Native.Nat.{ℕ, zero, suc, _+_, _*_, _-_, _≤_, _<_}
-use native.Mathlib.Decide.{decLt}
-use native.Mathlib.Omega.{arith}
+use Rattle.exact.proofs.Ground.{Bool, _≡_, refl, subst, ℕ, _≤_, _<_, _-_, _+_, _*_, suc, zero, decLt, arith, T, leb, leb→le}
 use borrow.Author.Tests.{leb-false}
-use lib.Dec.{T, leb, leb→le}
 use Rattle.exact.specs.Lists.{first}
 use Rattle.exact.specs.declared.fractions.Fraction.{Fraction}
 use Rattle.exact.proofs.Tests.{is-false}

@@ -1,12 +1,7 @@
 -- The walk over the sets of some size: one set more is one comparison, and every ratio has a short denominator.
-use mathlib.Core.Path.{_≡_, sym, _∙_, ap, subst}
-use mathlib.Core.Bool.{true, false}
-use mathlib.Core.List.{List, [], _∷_, _++_, map, map-append, append-nil, List·Memᴰ, Memᴰ·of-map}
-use Prim.Native.Nat.{ℕ, _+_, _≤_, _<_, _^_}
-use native.Mathlib.Numerals.{add-one}
-use native.Mathlib.Omega.{arith}
-use lib.ListN.{length, take}
-use lib.Seq.{take-suc, take-length}
+use Rattle.exact.proofs.Ground.{true, false, List, [], _∷_, map, _++_, List·Memᴰ, Memᴰ·of-map, append-nil, _≡_, _∙_, sym, ap, subst, ℕ, _≤_, _<_, _+_}
+use Rattle.exact.proofs.Ground.{_^_, add-one, arith, length, take, take-suc, take-length}
+use mathlib.Core.List.{map-append}
 use Rattle.exact.specs.Lists.{keep, holds}
 use Rattle.exact.specs.Fractions.{ShortDenominator, zeroFraction}
 use Rattle.exact.specs.declared.fractions.Fraction.{Fraction}
@@ -19,14 +14,14 @@ use Rattle.sets.proofs.Pascal.{length-choose}
 use Rattle.sets.proofs.Among.{chosen}
 use Rattle.parts.specs.Parts.{NoneShorter, OnlyWord}
 use Rattle.parts.proofs.OnlyWord.{chosen-only}
-use Rattle.projections.specs.Given.{Projection, Tabled}
-use Rattle.projections.specs.Projections.{relativeOf}
-use Rattle.projections.proofs.Products.{within-projection}
-use Rattle.projections.proofs.SetWords.{word-small}
-use Rattle.projections.proofs.Values.{value-num, value-short}
+use Rattle.set_words.specs.Given.{Projection, Tabled}
+use Rattle.set_words.specs.SetWords.{relativeOf}
+use Rattle.set_words.proofs.Products.{within-projection}
+use Rattle.set_words.proofs.SetWords.{word-small}
+use Rattle.set_words.proofs.Values.{value-num, value-short}
 use Rattle.resolution.specs.Resolution.{greater, greatest}
 use Rattle.resolution.specs.Given.{ratiosOf}
-use Rattle.resolution.specs.declared.inner.Ratios.{Ratios}
+use Rattle.resolution.specs.declared.routines.Ratios.{Ratios}
 use Rattle.resolution.proofs.Greatest.{greatest-none, greatest-snoc, greatest-of}
 
 -- ---- one set more

@@ -1,25 +1,21 @@
 -- All runs of a plan: what the routines are handed, and what they answer.
-use mathlib.Core.Path.{_≡_, refl, sym, _∙_, ap}
-use mathlib.Core.List.{List}
-use Prim.Native.Nat.{ℕ}
-use lib.Dec.{T}
-use lib.ListN.{take}
+use Rattle.exact.proofs.Ground.{List, _≡_, _∙_, sym, ap, refl, ℕ, T, take}
 use Rattle.rules.specs.Plan.{Plan, everyRun}
 use Rattle.rules.specs.Refusals.{Check, refusal, orElse, planChecks, ofPlan}
 use Rattle.rules.specs.declared.Refusal.{Refusal}
 use Rattle.rules.proofs.Order.{inTurn}
-use Rattle.plan.specs.declared.inner.Checked.{Checked}
+use Rattle.plan.specs.declared.routines.Checked.{Checked}
 use Rattle.plan.specs.Given.{checkedOf}
 use Rattle.plan.specs.Good.{Good}
 use Rattle.plan.proofs.Checks.{passed-good, good-passed, plan-handed}
 use Rattle.plan.proofs.CheckedRuns.{checked-refusal, handed-refusal, handed-value}
 use Rattle.words.specs.declared.WordsAnswer.{WordsAnswer}
 use Rattle.words.specs.Answers.{wordsBeside, wordsAnswer}
-use Rattle.projections.proofs.Answers.{good-tabled}
+use Rattle.set_words.proofs.Answers.{good-tabled}
 use Rattle.resolution.specs.Resolution.{resolutionChecks, generalizedAnswer}
 use Rattle.resolution.specs.Charts.{columnChecks, chartAnswer, figureAnswer}
 use Rattle.resolution.specs.Given.{Measured, refusing, measures, measuresBeside, ratingBeside, Small, generalizedFrom, chartFrom, figureFrom}
-use Rattle.resolution.specs.declared.inner.Rating.{Rating}
+use Rattle.resolution.specs.declared.routines.Rating.{Rating}
 use Rattle.resolution.proofs.Rated.{rating-small}
 use Rattle.resolution.proofs.Answered.{generalized-answered, chart-answered, figure-answered}
 

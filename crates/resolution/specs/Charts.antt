@@ -1,6 +1,7 @@
 -- Document 01, "Strength, resolution, projections": chart figures, each one division of two whole numbers that an f64 holds exactly.
 use mathlib.Core.Bool.{false, cond}
 use mathlib.Core.List.{List, _∷_, map}
+use mathlib.Core.Option.{Option, none, some}
 use Prim.Native.Nat.{ℕ, _+_, _*_}
 use lib.Dec.{eqb}
 use lib.IntN.{ℤ, pos}
@@ -12,7 +13,7 @@ use Rattle.rules.specs.Plan.{Plan, columns, level, entry, everyColumn}
 use Rattle.rules.specs.Refusals.{Check, refusal, unless, badPlace}
 use Rattle.sets.specs.Sets.{choose}
 use Rattle.words.specs.Words.{word}
-use Rattle.projections.specs.Projections.{relativeOf}
+use Rattle.set_words.specs.SetWords.{relativeOf}
 use Rattle.resolution.specs.Resolution.{greatest, resolutionIn, ratioIn, resolutionChecks}
 use Rattle.resolution.specs.declared.Chart.{Chart}
 use Rattle.resolution.specs.declared.Figure.{Figure}
@@ -29,6 +30,11 @@ zeroFigure = fin false 0 (pos 0)
 
 abbrev pub zeroChart : Chart
 zeroChart = record { word = zeroFigure; next = zeroFigure; ratio = zeroFigure }
+
+-- what a column's figure says: its f64, and none for the word clear
+abbrev pub figureSays : Figure → Option Float
+figureSays (Ratio x) = some x
+figureSays Clear = none
 
 -- the ratio as a figure, clear where it is zero
 abbrev pub figureOf : Fraction → Figure

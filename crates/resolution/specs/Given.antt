@@ -14,8 +14,8 @@ use Rattle.rules.specs.Refusals.{refusal, unless, orElse, noResolution}
 use Rattle.rules.specs.declared.Refusal.{Refusal}
 use Rattle.words.specs.Words.{word}
 use Rattle.words.specs.Answers.{wordList}
-use Rattle.projections.specs.Given.{Tabled}
-use Rattle.projections.specs.Projections.{relativeOf}
+use Rattle.set_words.specs.Given.{Tabled}
+use Rattle.set_words.specs.SetWords.{relativeOf}
 use Rattle.resolution.specs.Resolution.{greatest, resolutionIn, ratioIn, thousandthsOf}
 use Rattle.resolution.specs.Charts.{quotient, zeroFigure, zeroChart, figureOf, columnRatio, columnChecks}
 use Rattle.resolution.specs.declared.ResolutionAnswer.{ResolutionAnswer}
@@ -24,8 +24,8 @@ use Rattle.resolution.specs.declared.Chart.{Chart}
 use Rattle.resolution.specs.declared.ChartAnswer.{ChartAnswer}
 use Rattle.resolution.specs.declared.Figure.the-variants.{Clear}
 use Rattle.resolution.specs.declared.FigureAnswer.{FigureAnswer}
-use Rattle.resolution.specs.declared.inner.Ratios.{Ratios}
-use Rattle.resolution.specs.declared.inner.Rating.{Rating}
+use Rattle.resolution.specs.declared.routines.Ratios.{Ratios}
+use Rattle.resolution.specs.declared.routines.Rating.{Rating}
 
 -- some runs of a plan, and their words
 pub record Measured (p : Plan) (rs : List ℕ) (words : List ℤ) : Type 0 where

@@ -14,7 +14,7 @@ use Rattle.rules.specs.Plan.{Plan, columns, level, entry, everyColumn}
 use Rattle.rules.specs.Refusals.{Check, refusal, unless, noResolution}
 use Rattle.sets.specs.Sets.{choose}
 use Rattle.words.specs.Words.{word}
-use Rattle.projections.specs.Projections.{relativeOf}
+use Rattle.set_words.specs.SetWords.{relativeOf}
 use Rattle.resolution.specs.declared.ResolutionAnswer.{ResolutionAnswer}
 use Rattle.resolution.specs.declared.GeneralizedAnswer.{GeneralizedAnswer}
 

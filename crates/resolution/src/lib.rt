@@ -8,8 +8,8 @@ ghost use Rattle.resolution.specs.Resolution.{resolutionAnswer, generali
 ghost use Rattle.resolution.specs.Charts.{chartAnswer, figureAnswer};
 
 pub mod answers;
-pub mod inner;
 pub mod numbers;
+pub mod routines;
 
 // Every answer: the refusal, and beside it the values, which are zero in a refusal.
 pub struct ResolutionAnswer {
@@ -60,19 +60,19 @@ pub fn resolution(levels: &[u8], table: &[u8]) -> ResolutionAnswer
 pub fn generalized(levels: &[u8], table: &[u8]) -> GeneralizedAnswer
     ensures { λ r. ⌜ (let p = plan (now (levels .entry)) (now (table .entry)) in r ≡ generalizedAnswer p (everyRun p) (ofPlan p)) ⌝ }
 {
-    answers::generalized_of(inner::rate_plan(levels, table, 0))
+    answers::generalized_of(routines::rate_plan(levels, table, 0))
 }
 
 // The three chart figures.
 pub fn charted(levels: &[u8], table: &[u8]) -> ChartAnswer
     ensures { λ r. ⌜ (let p = plan (now (levels .entry)) (now (table .entry)) in r ≡ chartAnswer p (everyRun p) (ofPlan p)) ⌝ }
 {
-    answers::chart_of(inner::rate_plan(levels, table, 0))
+    answers::chart_of(routines::rate_plan(levels, table, 0))
 }
 
 // A column's chart figure.
 pub fn column_figure(levels: &[u8], table: &[u8], column: usize) -> FigureAnswer
     ensures { λ r. ⌜ (let p = plan (now (levels .entry)) (now (table .entry)) in r ≡ figureAnswer p (everyRun p) (ofPlan p) column) ⌝ }
 {
-    answers::figure_of(inner::rate_plan(levels, table, column))
+    answers::figure_of(routines::rate_plan(levels, table, column))
 }

@@ -1,6 +1,6 @@
 // Reads plan text and writes the same plan's text, without the runs that the arguments name. Standard error then has the line of each
 // run lost and the original numbers of the runs left.
-use arguments::lost_runs;
+use console::arguments::numbers_at;
 use console::lines::line_after;
 use console::lines::lines_end;
 use console::say;
@@ -8,13 +8,19 @@ use console::say_number;
 use libc::STDIN_FILENO;
 use rules::Refusal;
 use rules::sizes::MOST_RUNS;
+use standing_text::TextAnswer;
 use writer::MOST_BYTES;
-
-mod arguments;
+ghost use mathlib.Core.Path.{_≡_};
+ghost use Prim.Native.Nat.{_≤_};
+ghost use lib.ListN.{length};
+ghost use Rattle.io.specs.Counts.{Counts};
+ghost use Rattle.rules.specs.Plan.{mostRuns};
+ghost use Rattle.writer.specs.Writer.{mostOfText};
+ghost use Rattle.standing_text.specs.StandingText.{rewriteAnswer};
 
 fn show_refusal(refused: Refusal, text: &[u8]) {
     let mut line = [0u8; 71];
-    let size = report::inner::refusal_line(refused, &mut line);
+    let size = lines::refusal_line(refused, &mut line);
     console::refuse(&line[..size], text, refused);
 }
 
@@ -42,6 +48,23 @@ fn say_left(runs: &[usize]) {
     say(b"\n");
 }
 
+// The runs named by the arguments, into a room for as many as a plan has runs, and how many they are.
+fn lost_runs(runs: &mut [usize]) -> usize
+    requires { ⌜ mostRuns ≤ length (now runs) ⌝ }
+    ensures { λ r. ⌜ Counts r (now (runs .exit)) ⌝ }
+{
+    numbers_at(1, os::arg_count(), runs)
+}
+
+// The text without the lost runs, in rooms for the longest text and for all runs of a plan.
+fn rewritten(text: &[u8], lost: &[usize], room: &mut [u8], numbers: &mut [usize]) -> TextAnswer
+    requires { ⌜ (mostOfText ≤ length (now room)) × (mostRuns ≤ length (now numbers)) ⌝ }
+    ensures answer { λ r. ⌜ r ≡ rewriteAnswer (now (text .entry)) (now (lost .entry)) (length (now (room .entry))) (length (now (numbers .entry))) ⌝ }
+    ensures within { λ r. ⌜ (r .bytes ≤ length (now (room .exit))) × (r .runs ≤ length (now (numbers .exit))) ⌝ }
+{
+    standing_text::rewrite(text, lost, room, numbers)
+}
+
 // A plan has at most 256 runs, so that more arguments than that are refused by then.
 fn main() {
     let mut lost = [0usize; MOST_RUNS];
@@ -55,7 +78,7 @@ fn main() {
     let size = read.size;
     let mut room = [0u8; MOST_BYTES];
     let mut numbers = [0usize; MOST_RUNS];
-    let answer = handover::rewrite(&text[..size], &lost[..losses], &mut room, &mut numbers);
+    let answer = rewritten(&text[..size], &lost[..losses], &mut room, &mut numbers);
     let refused = answer.refused;
     if refused.number != 0 {
         show_refusal(refused, &text[..size]);

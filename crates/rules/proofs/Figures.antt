@@ -1,8 +1,5 @@
 -- Document 01, "Refusal numbers", worked: of two checks that fail, each next to the other in the order, the one that stands first is given.
-use mathlib.Core.Path.{_≡_, refl}
-use mathlib.Core.Bool.{true}
-use mathlib.Core.List.{List, [], _∷_, map}
-use Prim.Native.Nat.{ℕ}
+use Rattle.exact.proofs.Ground.{true, List, [], _∷_, map, _≡_, refl, ℕ}
 use Rattle.rules.specs.Refusals.{check, refusal}
 
 record Both : Type 0 where

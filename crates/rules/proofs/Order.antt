@@ -1,25 +1,8 @@
 -- Document 01, "Refusal numbers": a call is refused by the check that fails and stands first in the order, and by nothing else.
-use mathlib.Core.Path.{_≡_, refl, sym, _∙_, ap, subst, subst⁻¹}
-use mathlib.Core.Bool.{Bool, true, false, _&&_}
-use mathlib.Core.Logic.{⊎-elim}
-use mathlib.Core.List.{
-  List,
-  [],
-  _∷_,
-  _++_,
-  append-assoc,
-  List·Memᴰ,
-  List·Memᴰ·head,
-  List·Memᴰ·tail,
-  List·Memᴰ·not-nil,
-  List·Memᴰ·append-cases,
-  Memᴰ·append-left,
-  Memᴰ·append-right,
-}
-use Prim.Native.Nat.{ℕ, suc, _≤_}
-use native.Mathlib.Omega.{arith}
-use borrow.Author.Tests.{eqb-true, eqb-false, eq-eqb, ne-eqb}
-use lib.Dec.{T, eqb, ltb, leb, ltb→lt, leb→le}
+use Rattle.exact.proofs.Ground.{true, false, Bool, _&&_, List, [], _∷_, _++_, List·Memᴰ, List·Memᴰ·head, List·Memᴰ·tail, List·Memᴰ·not-nil}
+use Rattle.exact.proofs.Ground.{append-assoc, Memᴰ·append-left, Memᴰ·append-right, List·Memᴰ·append-cases, ⊎-elim, _≡_, _∙_, sym, ap, refl, subst}
+use Rattle.exact.proofs.Ground.{subst⁻¹, ℕ, _≤_, suc, arith, eqb, T, ltb, leb, ltb→lt, leb→le, ne-eqb, eq-eqb, eqb-true, eqb-false}
+use mathlib.Core.List.{}
 use Rattle.exact.specs.Lists.{all, keep, each, holds}
 use Rattle.exact.proofs.Tests.{is-false, false-is, both, all-mem}
 use Rattle.rules.specs.declared.Refusal.{Refusal}

@@ -1,11 +1,6 @@
 -- What the tests of the checks tell: a number that is not outside its range, what stands beside a refusal, and a refusal negated.
-use mathlib.Core.Path.{_≡_, refl, sym, _∙_, ap}
-use mathlib.Core.Bool.{Bool, true, false}
-use Prim.Native.Nat.{ℕ, _≤_, _<_, _^_}
-use native.Mathlib.Omega.{arith}
-use lib.IntN.{pos, negℤ, natAbs, _-ℤ_, +ℤ-idl}
-use borrow.Author.Tests.{ltb-false, le-ltb, eq-eqb, ne-eqb, eqb-true, eqb-false}
-use lib.Dec.{eqb, ltb}
+use Rattle.exact.proofs.Ground.{true, false, Bool, _≡_, _∙_, sym, ap, refl, ℕ, _≤_, _<_, _^_, arith, eqb, ltb, pos, natAbs, _-ℤ_, negℤ, +ℤ-idl}
+use Rattle.exact.proofs.Ground.{ne-eqb, le-ltb, eq-eqb, eqb-true, ltb-false, eqb-false}
 use Rattle.exact.specs.Lists.{outside}
 use Rattle.exact.proofs.Tests.{neither}
 use Rattle.exact.proofs.Order.{natAbs-neg}

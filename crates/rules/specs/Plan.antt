@@ -40,7 +40,8 @@ everyRun p = from 0 (runs p)
 abbrev pub several : {C : Type 0} → (C → ℕ) → List C → List C
 several s cols = keep (λ i. ltb 1 (s i)) cols
 
--- the sizes: 1 to 24 columns, 1 to 256 runs, levels 1 to 16 (by request #102), their product, bytes of plan text
+-- the sizes: 1 to 24 columns, 1 to 256 runs, so at most 24 times 256 entries, levels 1 to 16 (by request #102), their product, bytes of
+-- plan text
 abbrev pub mostColumns : ℕ
 mostColumns = 24
 
@@ -52,6 +53,9 @@ lowestLevel = 1
 
 abbrev pub highestLevel : ℕ
 highestLevel = 16
+
+abbrev pub mostEntries : ℕ
+mostEntries = 6_144
 
 abbrev pub highestProduct : ℕ
 highestProduct = 2_000_000_000

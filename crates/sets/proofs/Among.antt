@@ -1,10 +1,6 @@
 -- The sets of t of some columns, place after place: the set at a place has the columns at the places of a set of numbers.
-use mathlib.Core.Path.{_≡_, sym, _∙_, ap}
-use mathlib.Core.List.{List, [], map, List·Memᴰ}
-use Prim.Native.Nat.{ℕ, _+_, _-_, _≤_, _<_}
-use native.Mathlib.Omega.{arith}
-use lib.ListN.{length, getD, take, set, replicate, List·getD-append}
-use lib.Seq.{take-at}
+use Rattle.exact.proofs.Ground.{List, [], map, List·Memᴰ, _≡_, _∙_, sym, ap, ℕ, _≤_, _<_, _-_, _+_, arith, length, getD, take, replicate, set}
+use Rattle.exact.proofs.Ground.{List·getD-append, take-at}
 use Rattle.exact.specs.Lists.{from, filledTo}
 use Rattle.exact.proofs.Numbers.{mem-from, map-places}
 use Rattle.exact.proofs.Rooms.{copied, copy-next, copy-all, into-blank}

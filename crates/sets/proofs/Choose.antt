@@ -1,11 +1,6 @@
 -- Sums over the sets of columns: over all sets of j members they are the elementary symmetric sums, worked out a member at a time.
-use mathlib.Core.Path.{_≡_, refl, sym, _∙_, ap}
-use mathlib.Core.Bool.{Bool, true, false, cond, _&&_}
-use mathlib.Core.List.{List, [], _∷_, _++_, map, List·Memᴰ, List·Memᴰ·head, List·Memᴰ·tail}
-use Prim.Native.Nat.{ℕ, zero, suc, _<_}
-use native.Mathlib.Omega.{arith}
-use lib.ListN.{length}
-use lib.IntN.{ℤ, pos, _+ℤ_, _*ℤ_, +ℤ-comm, +ℤ-assoc, *ℤ-zero}
+use Rattle.exact.proofs.Ground.{true, false, Bool, cond, _&&_, List, [], _∷_, map, _++_, List·Memᴰ, List·Memᴰ·head, List·Memᴰ·tail, _≡_, _∙_, sym, ap}
+use Rattle.exact.proofs.Ground.{refl, ℕ, _<_, suc, zero, arith, pos, ℤ, _*ℤ_, _+ℤ_, +ℤ-comm, *ℤ-zero, +ℤ-assoc, length}
 use Rattle.exact.specs.Lists.{sum, prod, all, keep}
 use Rattle.exact.proofs.Ring.{ring}
 use Rattle.exact.proofs.Sums.{sum-++, sum-map, sum-*}

@@ -1,7 +1,5 @@
 -- Document 01, "Strength, resolution, projections": a table of place questions with their answers, and one statement over it.
-use mathlib.Core.Path.{_≡_, refl}
-use mathlib.Core.List.{List, [], _∷_, _++_, map}
-use Prim.Native.Nat.{ℕ}
+use Rattle.exact.proofs.Ground.{List, [], _∷_, map, _++_, _≡_, refl, ℕ}
 use Rattle.rules.specs.declared.Refusal.{Refusal}
 use Rattle.sets.specs.Sets.{placeOf, placeAnswer, setAt, setAnswer}
 

@@ -2,6 +2,7 @@ pub mod Choose
 pub mod Parts
 pub mod Pascal
 pub mod Rising
+pub mod Holding
 pub mod Places
 pub mod Among
 pub mod Walks

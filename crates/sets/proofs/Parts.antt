@@ -1,14 +1,8 @@
 -- The parts of a list: its members in their order, some left out. What `choose` and `subsets` list.
-use mathlib.Core.Path.{_≡_, refl, sym, _∙_, ap, subst}
-use mathlib.Core.Bool.{Bool, true, false, cond}
-use mathlib.Core.Logic.{_⊎_, inl, inr, ⊎-elim}
-use mathlib.Core.List.{List, [], _∷_, _++_, map, List·Memᴰ, List·Memᴰ·head, List·Memᴰ·tail, List·Memᴰ·not-nil}
-use mathlib.Core.List.{List·Memᴰ·append-cases, List·Memᴰ·eq-of-singleton, Memᴰ·of-map, Memᴰ·map, Memᴰ·append-left, Memᴰ·append-right}
-use Prim.Native.Nat.{ℕ, zero, suc, _≤_, _<_, zero-le}
-use native.Mathlib.Nat.{eq-or-lt-of-le}
-use native.Mathlib.Omega.{arith}
-use lib.ListN.{length}
-use lib.IntN.{ℤ, pos, _+ℤ_, +ℤ-idl, +ℤ-comm}
+use Rattle.exact.proofs.Ground.{true, false, Bool, cond, List, [], _∷_, map, _++_, List·Memᴰ, List·Memᴰ·head, List·Memᴰ·tail, List·Memᴰ·not-nil}
+use Rattle.exact.proofs.Ground.{Memᴰ·of-map, Memᴰ·append-left, Memᴰ·append-right, Memᴰ·map, List·Memᴰ·append-cases, List·Memᴰ·eq-of-singleton, _⊎_}
+use Rattle.exact.proofs.Ground.{inl, inr, ⊎-elim, _≡_, _∙_, sym, ap, refl, subst, ℕ, _≤_, _<_, suc, zero, zero-le, eq-or-lt-of-le, arith, pos, ℤ}
+use Rattle.exact.proofs.Ground.{_+ℤ_, +ℤ-idl, +ℤ-comm, length}
 use Rattle.exact.specs.Lists.{sum}
 use Rattle.exact.specs.Lists as lists
 use Rattle.exact.proofs.Sums.{sum-++, sum-map}

@@ -1,12 +1,7 @@
 -- The binomials: how many sets there are, how large a binomial is, and Pascal's rule over the whole table by one computation.
-use mathlib.Core.Path.{_≡_, refl, _∙_, ap}
-use mathlib.Core.List.{List, [], _∷_, _++_, map}
-use Prim.Native.Nat.{ℕ, zero, suc, _+_, _*_, _≤_, _<_}
-use native.Mathlib.Nat.{add-zero, zero-add}
-use native.Mathlib.Decide.{decLe}
-use native.Mathlib.Omega.{arith}
-use lib.Dec.{T, leb, leb→le}
-use lib.ListN.{length, getD, replicate, length-append, length-map, getD-replicate, List·getD-append}
+use Rattle.exact.proofs.Ground.{List, [], _∷_, map, _++_, _≡_, _∙_, ap, refl, ℕ, _≤_, _<_, _+_, _*_, suc, zero, decLe, zero-add, add-zero, arith, T}
+use Rattle.exact.proofs.Ground.{leb, leb→le, length, getD, replicate, length-append, length-map, List·getD-append}
+use lib.ListN.{getD-replicate}
 use lib.Seq.{getD-append-add}
 use Rattle.exact.specs.Lists.{from, all}
 use Rattle.exact.proofs.Numbers.{length-from}

@@ -1,15 +1,9 @@
 -- The place of a set and the set at a place, each by one walk over the columns, and each the inverse of the other.
-use mathlib.Core.Path.{_≡_, refl, sym, _∙_, ap, subst}
-use mathlib.Core.Bool.{Bool, true, false, cond}
+use Rattle.exact.proofs.Ground.{true, false, Bool, cond, List, [], _∷_, map, _++_, List·Memᴰ, List·Memᴰ·head, List·Memᴰ·tail, List·Memᴰ·not-nil, _≡_}
+use Rattle.exact.proofs.Ground.{_∙_, sym, ap, refl, subst, ℕ, _≤_, _<_, _-_, _+_, suc, zero, decLt, arith, eqb, T, ltb, eqb→eq, eqb-refl, length}
+use Rattle.exact.proofs.Ground.{getD, take, replicate, length-append, length-map, List·getD-append, take-at, ne-eqb, le-ltb, lt-ltb}
 use mathlib.Core.Logic.{dite}
-use mathlib.Core.List.{List, [], _∷_, _++_, map, List·Memᴰ, List·Memᴰ·head, List·Memᴰ·tail, List·Memᴰ·not-nil}
-use Prim.Native.Nat.{ℕ, zero, suc, _+_, _-_, _≤_, _<_}
-use native.Mathlib.Decide.{decLt}
-use native.Mathlib.Omega.{arith}
-use borrow.Author.Tests.{lt-ltb, le-ltb, ne-eqb}
-use lib.Dec.{T, eqb, ltb, eqb→eq, eqb-refl}
-use lib.ListN.{length, getD, take, replicate, length-append, length-map, List·getD-append}
-use lib.Seq.{getD-append-add, take-at}
+use lib.Seq.{getD-append-add}
 use Rattle.exact.specs.Lists.{from, filledTo, same}
 use Rattle.exact.proofs.Numbers.{mem-from, map-places}
 use Rattle.exact.proofs.Tests.{both, join, is-true}

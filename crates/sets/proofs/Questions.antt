@@ -1,12 +1,6 @@
 -- The checks of a projection, and the question's answer, both ways, by its three checks: 1, then 6, then 8.
-use mathlib.Core.Path.{_≡_, refl, sym, _∙_, ap, ap₂}
-use mathlib.Core.Bool.{Bool, true, false, _&&_}
-use mathlib.Core.List.{List, [], _∷_, List·Memᴰ, List·Memᴰ·head, List·Memᴰ·tail}
-use Prim.Native.Nat.{ℕ, _≤_, _<_}
-use native.Mathlib.Omega.{arith}
-use borrow.Author.Tests.{ltb-false, lt-ltb, le-ltb}
-use lib.Dec.{T, eqb, eqb→eq, ltb}
-use lib.ListN.{length, getD}
+use Rattle.exact.proofs.Ground.{true, false, Bool, _&&_, List, [], _∷_, List·Memᴰ, List·Memᴰ·head, List·Memᴰ·tail, _≡_, _∙_, sym, ap, refl, ap₂, ℕ}
+use Rattle.exact.proofs.Ground.{_≤_, _<_, arith, eqb, T, ltb, eqb→eq, length, getD, le-ltb, lt-ltb, ltb-false}
 use Rattle.exact.specs.Lists.{filledTo, outside}
 use Rattle.exact.proofs.Tests.{both, neither, true-is, not-true}
 use Rattle.rules.specs.declared.Refusal.{Refusal}

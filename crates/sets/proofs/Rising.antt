@@ -1,16 +1,8 @@
 -- A set of columns of m is a list that rises below m, and so a part of the columns 0, 1, .., m - 1.
-use mathlib.Core.Path.{_≡_, refl, sym, _∙_, ap, subst}
-use mathlib.Core.Bool.{Bool, true, false, _&&_}
-use mathlib.Core.Logic.{⊎-elim}
-use mathlib.Core.List.{List, [], _∷_}
-use Prim.Native.Nat.{ℕ, zero, suc, _+_, _≤_, _<_}
-use native.Mathlib.Nat.{eq-or-lt-of-le, le-refl}
-use native.Mathlib.Numerals.{add-one}
-use native.Mathlib.Omega.{arith}
-use borrow.Author.Tests.{lt-ltb, le-ltb, le-leb, lt-leb}
-use lib.Dec.{T, leb, ltb, leb·zero, leb→le, le→leb, ltb→lt, lt→ltb}
-use lib.ListN.{length, getD, drop}
-use lib.Seq.{drop-cons, drop-length}
+use Rattle.exact.proofs.Ground.{true, false, Bool, _&&_, List, [], _∷_, ⊎-elim, _≡_, _∙_, sym, ap, refl, subst, ℕ, _≤_, _<_, _+_, suc, zero, le-refl}
+use Rattle.exact.proofs.Ground.{eq-or-lt-of-le, add-one, arith, T, ltb, leb, ltb→lt, leb→le, length, getD, drop, drop-cons, drop-length, le-ltb}
+use Rattle.exact.proofs.Ground.{lt-ltb, le-leb, lt-leb}
+use lib.Dec.{leb·zero, le→leb, lt→ltb}
 use Rattle.exact.specs.Lists.{from, all, rise}
 use Rattle.exact.proofs.Tests.{both, join}
 use Rattle.rules.specs.Refusals.{isSet}

@@ -1,13 +1,7 @@
 -- The two walks over the columns as loops: what holds before each column, and that a turn keeps it.
-use mathlib.Core.Path.{_≡_, refl, sym, _∙_, ap}
-use mathlib.Core.List.{List, [], _∷_, List·Memᴰ·head}
-use Prim.Native.Nat.{ℕ, zero, suc, _+_, _-_, _≤_, _<_}
+use Rattle.exact.proofs.Ground.{List, [], _∷_, List·Memᴰ·head, _≡_, _∙_, sym, ap, refl, ℕ, _≤_, _<_, _-_, _+_, suc, zero, add-one, arith, T, length}
+use Rattle.exact.proofs.Ground.{getD, drop, replicate, set, length-drop, drop-cons, drop-length}
 use native.Mathlib.Nat.{sub-zero}
-use native.Mathlib.Numerals.{add-one}
-use native.Mathlib.Omega.{arith}
-use lib.Dec.{T}
-use lib.ListN.{length, getD, set, drop, replicate, length-drop}
-use lib.Seq.{drop-cons, drop-length}
 use Rattle.exact.specs.Lists.{from, filledTo}
 use Rattle.exact.proofs.Numbers.{length-from, mem-from}
 use Rattle.exact.proofs.Rooms.{copied, copy-next, copy-all, into-blank}

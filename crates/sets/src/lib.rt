@@ -1,6 +1,6 @@
 // Sets of columns, numbered in dictionary order.
 mod binomials;
-pub mod inner;
+pub mod routines;
 
 use rules::Refusal;
 use rules::sizes::MOST_COLUMNS;
@@ -30,20 +30,20 @@ fn check_sizes(m: usize, f: usize) -> Refusal
     if MOST_COLUMNS < m {
         return Refusal::plain(1);
     }
-    inner::check_size(m, f)
+    routines::check_size(m, f)
 }
 
 // The place of a set of f of m columns, in dictionary order.
 pub fn place(m: usize, f: usize, columns: &[usize]) -> Placed
     ensures { λ r. ⌜ r ≡ placeAnswer m f (now (columns .entry)) ⌝ }
 {
-    let refused = check_sizes(m, f).or_else(inner::check_set(m, f, columns));
+    let refused = check_sizes(m, f).or_else(routines::check_set(m, f, columns));
     if refused.number != 0 {
         return Placed { refused, place: 0 };
     }
     Placed {
         refused,
-        place: inner::place(m, columns),
+        place: routines::place(m, columns),
     }
 }
 
@@ -58,13 +58,13 @@ pub fn set_at(m: usize, f: usize, k: usize) -> Chosen
             columns: [0; 4],
         };
     }
-    if inner::binomial(m, f) <= k {
+    if routines::binomial(m, f) <= k {
         return Chosen {
             refused: Refusal::plain(8),
             columns: [0; 4],
         };
     }
-    let set = inner::set_at(m, f, k);
+    let set = routines::set_at(m, f, k);
     Chosen {
         refused,
         columns: [set[0], set[1], set[2], set[3]],

@@ -1,8 +1,5 @@
 -- Worked figures of one table: 0 0, 0 2, 1 0, 0 2, in columns of two and three levels. Level 1 of column 1 never occurs, and run 3 repeats run 1.
-use mathlib.Core.Path.{_≡_, refl}
-use mathlib.Core.Bool.{Bool, true, false}
-use mathlib.Core.List.{List, [], _∷_, map}
-use Prim.Native.Nat.{ℕ}
+use Rattle.exact.proofs.Ground.{true, false, Bool, List, [], _∷_, map, _≡_, refl, ℕ}
 use Rattle.exact.specs.Lists.{from}
 use Rattle.rules.specs.Plan.{Plan, plan, level, everyColumn, everyRun}
 use Rattle.rules.specs.Refusals.{ofPlan, firstBadLevel, firstBadEntry}

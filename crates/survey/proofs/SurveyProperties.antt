@@ -1,13 +1,6 @@
 -- A level occurs exactly where some run has it; the first run with the entries of run f is found by a search upward, at the latest at f itself.
-use mathlib.Core.Path.{_≡_, refl, sym, subst}
-use mathlib.Core.Bool.{Bool, true, false, cond, _||_}
-use mathlib.Core.List.{List, [], _∷_, map, List·Memᴰ, List·Memᴰ·head, List·Memᴰ·tail, Memᴰ·map}
-use Prim.Native.Nat.{ℕ, zero, suc, _+_, _≤_, _<_}
-use native.Mathlib.Decide.{decLt}
-use native.Mathlib.Omega.{arith}
-use borrow.Author.Tests.{eq-eqb, eqb-true}
-use lib.Dec.{eqb}
-use lib.ListN.{getD}
+use Rattle.exact.proofs.Ground.{true, false, Bool, cond, _||_, List, [], _∷_, map, List·Memᴰ, List·Memᴰ·head, List·Memᴰ·tail, Memᴰ·map, _≡_, sym}
+use Rattle.exact.proofs.Ground.{refl, subst, ℕ, _≤_, _<_, _+_, suc, zero, decLt, arith, eqb, getD, eq-eqb, eqb-true}
 use Rattle.exact.specs.Lists.{from, keep, first}
 use Rattle.exact.proofs.Tests.{is-true, true-is, mem-all, clash}
 use Rattle.exact.proofs.Members.{mem-holds}

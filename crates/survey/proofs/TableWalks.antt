@@ -1,13 +1,5 @@
 -- A turn of the loops over the runs and over the columns: the present one, and those left.
-use mathlib.Core.Path.{_≡_, sym}
-use mathlib.Core.Bool.{Bool, true, false}
-use mathlib.Core.List.{[], _∷_}
-use Prim.Native.Nat.{ℕ, suc, _+_, _*_, _-_, _≤_, _<_}
-use native.Mathlib.Numerals.{add-one}
-use native.Mathlib.Omega.{arith}
-use borrow.Author.Tests.{eq-eqb, ne-eqb}
-use lib.Dec.{eqb}
-use lib.ListN.{length}
+use Rattle.exact.proofs.Ground.{true, false, Bool, [], _∷_, _≡_, sym, ℕ, _≤_, _<_, _-_, _+_, _*_, suc, add-one, arith, eqb, length, ne-eqb, eq-eqb}
 use Rattle.exact.specs.Lists.{from, all}
 use Rattle.exact.proofs.Numbers.{row-within, mul-below}
 use Rattle.rules.specs.Plan.{Plan, columns, runs, entry, mostColumns, mostRuns}

@@ -5,7 +5,7 @@ ghost use Rattle.rules.specs.Plan.{plan, everyRun};
 ghost use Rattle.rules.specs.Refusals.{ofPlan};
 ghost use Rattle.survey.specs.Survey.{occursAnswer, alikeAnswer};
 
-pub mod inner;
+pub mod routines;
 
 // Both answers: the refusal, and beside it the value, which is false or zero in a refusal.
 pub struct OccursAnswer {
@@ -42,7 +42,7 @@ pub fn level_occurs(levels: &[u8], table: &[u8], column: usize, level: u8) -> Oc
             occurs: false,
         };
     }
-    let occurs = inner::occurs(levels, table, column, level);
+    let occurs = routines::occurs(levels, table, column, level);
     OccursAnswer { refused, occurs }
 }
 
@@ -60,7 +60,7 @@ pub fn first_alike(levels: &[u8], table: &[u8], run: usize) -> AlikeAnswer
             run: 0,
         };
     }
-    let first = inner::first_alike(levels, table, run);
+    let first = routines::first_alike(levels, table, run);
     AlikeAnswer {
         refused,
         run: first,

@@ -1,9 +1,5 @@
 -- The reader's answers: the refusal at each of its returns, and what stands beside it.
-use mathlib.Core.Path.{_≡_, refl, sym, _∙_, ap, ap₂, subst}
-use mathlib.Core.List.{List}
-use Prim.Native.Nat.{ℕ, _≤_, _<_}
-use borrow.Author.Tests.{lt-ltb, le-ltb, eq-eqb, ne-eqb}
-use lib.ListN.{length}
+use Rattle.exact.proofs.Ground.{List, _≡_, _∙_, sym, ap, refl, ap₂, subst, ℕ, _≤_, _<_, length, ne-eqb, le-ltb, eq-eqb, lt-ltb}
 use Rattle.exact.specs.Lists.{into}
 use Rattle.rules.specs.declared.Refusal.{Refusal}
 use Rattle.rules.specs.Plan.{Plan, plan, columns, runs, longestText}

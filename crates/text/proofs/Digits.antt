@@ -1,14 +1,8 @@
 -- Decimal digits: a number by its last digit, what digits stand for, and the numbers of one or two digits.
-use mathlib.Core.Path.{_≡_, sym, _∙_, ap, ap₂}
-use mathlib.Core.Bool.{true, false, not, _&&_}
-use mathlib.Core.List.{List, [], _∷_, _++_}
-use Prim.Native.Nat.{ℕ, zero, suc, _+_, _/_, _%_, _^_, _≤_, _<_}
-use native.Mathlib.Decide.{decLt}
+use Rattle.exact.proofs.Ground.{true, false, not, _&&_, List, [], _∷_, _++_, _≡_, _∙_, sym, ap, ap₂, ℕ, _≤_, _<_, _+_, suc, zero, _^_, _/_, _%_}
+use Rattle.exact.proofs.Ground.{decLt, arith, eqb, leb, length, length-append, ne-eqb, le-ltb, lt-ltb, eqb-false, le-leb, not-true}
 use native.Mathlib.Nat.{pow-suc}
-use native.Mathlib.Omega.{arith}
-use borrow.Author.Tests.{lt-ltb, le-ltb, le-leb, ne-eqb, leb-true, eqb-false, not-true}
-use lib.Dec.{eqb, leb}
-use lib.ListN.{length, length-append}
+use borrow.Author.Tests.{leb-true}
 use Rattle.exact.proofs.Tests.{both, is-true, true-is}
 use Rattle.text.specs.Decimal.{digits, decimal, value}
 use Rattle.text.specs.Text.{isDigit, isNumber}

@@ -1,8 +1,5 @@
 -- Worked figures of the grammar: what the reader answers for some texts, by computation.
-use mathlib.Core.Path.{_≡_, refl}
-use mathlib.Core.List.{List, [], _∷_, _++_, map}
-use Prim.Native.Nat.{ℕ}
-use lib.ListN.{replicate}
+use Rattle.exact.proofs.Ground.{List, [], _∷_, map, _++_, _≡_, refl, ℕ, replicate}
 use Rattle.rules.specs.Plan.{Plan, plan}
 use Rattle.rules.specs.Refusals.{accepted, plain, placed, firstBadLevel, firstBadEntry}
 use Rattle.text.specs.Bytes.{bytes, lines}

@@ -1,16 +1,8 @@
 -- The reader's turns: what the number in front of the bytes that are left says of the line in front of them.
-use mathlib.Core.Path.{_≡_, refl, sym, _∙_, ap, ap₂, subst}
-use mathlib.Core.Bool.{Bool, true, false, cond, not, _&&_}
-use mathlib.Core.Logic.{_⊎_, inl, inr}
-use mathlib.Core.List.{List, [], _∷_, _++_, map, append-assoc}
-use Prim.Native.Nat.{ℕ, suc, _+_, _-_, _*_, _≤_, _<_}
-use native.Mathlib.Numerals.{add-one}
-use native.Mathlib.Decide.{decLt}
-use native.Mathlib.Omega.{arith}
-use borrow.Author.Tests.{ne-eqb, not-true}
-use lib.Dec.{eqb}
-use lib.ListN.{length, getD, drop, length-append, length-drop, List·getD-eq-default}
-use lib.Seq.{append-snoc, drop-cons, drop-drop, getD-at}
+use Rattle.exact.proofs.Ground.{true, false, Bool, cond, not, _&&_, List, [], _∷_, map, _++_, append-assoc, _⊎_, inl, inr, _≡_, _∙_, sym, ap, refl}
+use Rattle.exact.proofs.Ground.{ap₂, subst, ℕ, _≤_, _<_, _-_, _+_, _*_, suc, decLt, add-one, arith, eqb, length, getD, drop, length-append}
+use Rattle.exact.proofs.Ground.{length-drop, List·getD-eq-default, drop-cons, append-snoc, drop-drop, ne-eqb, not-true}
+use lib.Seq.{getD-at}
 use Rattle.exact.specs.Lists.{all}
 use Rattle.exact.proofs.Tests.{both, is-true, true-is}
 use Rattle.text.specs.declared.reading.Number.{Number}

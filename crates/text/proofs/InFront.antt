@@ -1,16 +1,10 @@
 -- An accepted text, read to rooms that hold every accepted plan: its plan is good, and stands in front of them.
-use mathlib.Core.Path.{_≡_, refl, sym, _∙_, ap}
-use mathlib.Core.List.{List}
-use Prim.Native.Nat.{ℕ, _*_, _≤_}
-use native.Mathlib.Decide.{decLe, ℕ-discrete}
+use Rattle.exact.proofs.Ground.{List, _≡_, _∙_, sym, ap, refl, ℕ, _≤_, _*_, ℕ-discrete, decLe, arith, length, take, drop, take-at}
 use native.Mathlib.Nat.{mul-comm}
-use native.Mathlib.Omega.{arith}
-use lib.ListN.{length, take, drop}
-use lib.Seq.{take-at}
 use Rattle.exact.specs.Lists.{into}
 use Rattle.exact.proofs.Numbers.{mul-below}
 use Rattle.rules.specs.declared.Refusal.{Refusal}
-use Rattle.rules.specs.Plan.{Plan, columns, runs, mostColumns, mostRuns, longestText}
+use Rattle.rules.specs.Plan.{Plan, columns, runs, mostColumns, mostRuns, longestText, mostEntries}
 use Rattle.rules.specs.Refusals.{refusal, planChecks}
 use Rattle.rules.proofs.Ranges.{unless-accepted}
 use Rattle.plan.specs.Good.{Good}
@@ -19,10 +13,6 @@ use Rattle.text.specs.declared.ReadAnswer.{ReadAnswer}
 use Rattle.text.specs.Text.{malformedLine, planOf}
 use Rattle.text.specs.Reader.{readRefusal, answered, filled}
 use Rattle.text.proofs.Answers.{refused-plan, long-text, malformed-text, formed-text}
-
--- room for the entries of 256 runs
-abbrev pub mostEntries : ℕ
-mostEntries = 6144
 
 pub entries-few : (p : Plan) → Good p → length (p .table) ≤ mostEntries
 entries-few p G = omega (arith, G .size, mul-below (runs p) (columns p) mostRuns mostColumns (G .runs-high) (G .columns-high))

@@ -1,12 +1,6 @@
 -- The reader's loop over the numbers of a line: what is left of the line, after the numbers stored, decides what the whole line is.
-use mathlib.Core.Path.{_≡_, refl, sym, _∙_, ap}
-use mathlib.Core.Logic.{_⊎_, inl, inr}
-use mathlib.Core.List.{List, [], _∷_, _++_}
-use Prim.Native.Nat.{ℕ, _+_, _<_}
-use native.Mathlib.Nat.{add-zero}
-use native.Mathlib.Omega.{arith}
-use lib.ListN.{length, getD, drop, set, length-append}
-use lib.Seq.{append-snoc, getD-drop}
+use Rattle.exact.proofs.Ground.{List, [], _∷_, _++_, _⊎_, inl, inr, _≡_, _∙_, sym, ap, refl, ℕ, _<_, _+_, add-zero, arith, length, getD, drop, set}
+use Rattle.exact.proofs.Ground.{length-append, getD-drop, append-snoc}
 use Rattle.text.specs.Bytes.{putAt}
 use Rattle.text.specs.Decimal.{value}
 use Rattle.text.specs.Text.{split}

@@ -1,12 +1,6 @@
 -- A line and the lines of a text: which texts have no malformed line, and what they hold.
-use mathlib.Core.Path.{_≡_, refl, _∙_, ap, ap₂}
-use mathlib.Core.Bool.{Bool, true, false, cond, _&&_}
-use mathlib.Core.List.{List, [], _∷_, _++_, map}
-use Prim.Native.Nat.{ℕ, suc, _+_, _<_}
-use native.Mathlib.Omega.{arith}
-use borrow.Author.Tests.{eq-eqb, eqb-true, ne-eqb}
-use lib.Dec.{eqb}
-use lib.ListN.{length, length-map}
+use Rattle.exact.proofs.Ground.{true, false, Bool, cond, _&&_, List, [], _∷_, map, _++_, _≡_, _∙_, ap, refl, ap₂, ℕ, _<_, _+_, suc, arith, eqb}
+use Rattle.exact.proofs.Ground.{length, length-map, ne-eqb, eq-eqb, eqb-true}
 use Rattle.exact.specs.Lists.{all}
 use Rattle.exact.proofs.Tests.{both, is-true, true-is}
 use Rattle.text.specs.Decimal.{decimal, value}

@@ -1,12 +1,6 @@
 -- Refusal 14 names the first malformed line: each line before it is well formed, and it is not, or no byte 10 ends it.
-use mathlib.Core.Path.{_≡_, refl, ap}
-use mathlib.Core.Bool.{Bool, true, false, cond, _&&_}
-use mathlib.Core.List.{List, [], _∷_, _++_, cons-ne-nil}
-use Prim.Native.Nat.{ℕ, suc, _+_, _<_}
-use native.Mathlib.Omega.{arith}
-use borrow.Author.Tests.{ne-eqb}
-use lib.Dec.{eqb}
-use lib.ListN.{length}
+use Rattle.exact.proofs.Ground.{true, false, Bool, cond, _&&_, List, [], _∷_, _++_, _≡_, ap, refl, ℕ, _<_, _+_, suc, arith, eqb, length, ne-eqb}
+use mathlib.Core.List.{cons-ne-nil}
 use Rattle.exact.proofs.Tests.{true-is, false-is}
 use Rattle.text.specs.Text.{split, isLine, count, firstMalformed, width, malformedLine}
 use Rattle.text.proofs.Split.{All, split-there}

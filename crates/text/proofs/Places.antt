@@ -1,12 +1,9 @@
 -- Numbers put into a room one after another.
-use mathlib.Core.Path.{_≡_, sym, _∙_, ap, ap₂}
-use mathlib.Core.List.{List, [], _∷_, _++_, append-assoc, append-nil}
-use Prim.Native.Nat.{ℕ, _+_, _≤_, _<_}
-use native.Mathlib.Nat.{add-zero, add-assoc}
-use native.Mathlib.Numerals.{add-one}
-use native.Mathlib.Omega.{arith}
-use lib.ListN.{length, take, drop, set, length-append, length-drop, take-append-drop}
-use lib.Seq.{length-take-le, take-at, drop-at, drop-drop, set-split, append-snoc}
+use Rattle.exact.proofs.Ground.{List, [], _∷_, _++_, append-assoc, append-nil, _≡_, _∙_, sym, ap, ap₂, ℕ, _≤_, _<_, _+_, add-zero, add-one, arith}
+use Rattle.exact.proofs.Ground.{length, take, drop, set, length-append, length-drop, take-append-drop, length-take-le, take-at, append-snoc}
+use Rattle.exact.proofs.Ground.{drop-drop, drop-at}
+use native.Mathlib.Nat.{add-assoc}
+use lib.Seq.{set-split}
 use Rattle.text.specs.Bytes.{putAt}
 
 module _ (k : ℕ) (room : List ℕ) where

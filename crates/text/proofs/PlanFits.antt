@@ -1,13 +1,6 @@
 -- A plan that was read fits its rooms, in a refusal too.
-use mathlib.Core.Path.{_≡_, refl, sym}
-use mathlib.Core.Bool.{Bool, true, false, cond, not}
-use mathlib.Core.List.{List, _∷_, List·Memᴰ·tail, Memᴰ·append-left}
-use Prim.Native.Nat.{ℕ, _*_, _≤_}
-use native.Mathlib.Nat.{mul-le-mul}
-use native.Mathlib.Omega.{arith}
-use borrow.Author.Tests.{eqb-true}
-use lib.Dec.{eqb}
-use lib.ListN.{length}
+use Rattle.exact.proofs.Ground.{true, false, Bool, cond, not, List, _∷_, List·Memᴰ·tail, Memᴰ·append-left, _≡_, sym, refl, ℕ, _≤_, _*_, mul-le-mul}
+use Rattle.exact.proofs.Ground.{arith, eqb, length, eqb-true}
 use Rattle.rules.specs.Plan.{Plan, columns, runs, mostColumns, mostRuns}
 use Rattle.rules.specs.Refusals.{Check, refusal, ofPlan, planChecks, tooLong, malformed}
 use Rattle.rules.proofs.Order.{passed-none, none-passed}

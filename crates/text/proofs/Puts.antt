@@ -1,10 +1,6 @@
 -- Parts put into a room one after the other are put in as one.
-use mathlib.Core.Path.{_≡_, refl, sym, _∙_, ap}
-use mathlib.Core.List.{List, [], _∷_, _++_, append-assoc, append-nil}
-use Prim.Native.Nat.{ℕ, _+_, _≤_, _<_}
-use native.Mathlib.Nat.{zero-add}
-use native.Mathlib.Omega.{arith}
-use lib.ListN.{length, set, take, drop, length-append}
+use Rattle.exact.proofs.Ground.{List, [], _∷_, _++_, append-assoc, append-nil, _≡_, _∙_, sym, ap, refl, ℕ, _≤_, _<_, _+_, zero-add, arith, length}
+use Rattle.exact.proofs.Ground.{take, drop, set, length-append}
 use Rattle.exact.specs.Lists.{each, into}
 use Rattle.text.specs.Bytes.{putAt, Put}
 use Rattle.text.proofs.Places.{put-nothing, put-more, put-length, put-one, take-put}

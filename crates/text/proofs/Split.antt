@@ -1,12 +1,6 @@
 -- Cutting a text at a byte and joining the pieces again undo one another.
-use mathlib.Core.Path.{_≡_, refl, sym, _∙_, ap}
-use mathlib.Core.Bool.{Bool, true, false}
-use mathlib.Core.List.{List, [], _∷_, _++_}
-use Prim.Native.Nat.{ℕ, zero, suc, _<_}
-use native.Mathlib.Omega.{arith}
-use borrow.Author.Tests.{eq-eqb}
-use lib.Dec.{T, eqb, eqb→eq}
-use lib.ListN.{length, drop}
+use Rattle.exact.proofs.Ground.{true, false, Bool, List, [], _∷_, _++_, _≡_, _∙_, sym, ap, refl, ℕ, _<_, suc, zero, arith, eqb, T, eqb→eq, length}
+use Rattle.exact.proofs.Ground.{drop, eq-eqb}
 use Rattle.text.specs.Text.{join, cut, split}
 
 module _ {A : Type 0} where

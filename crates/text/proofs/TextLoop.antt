@@ -1,14 +1,7 @@
 -- The reader's loop over the lines: what is left of the text, after the lines stored, decides what the whole text is.
-use mathlib.Core.Path.{_≡_, refl, sym, _∙_, ap, subst}
-use mathlib.Core.Bool.{Bool, true, false, cond, _&&_}
-use mathlib.Core.List.{List, [], _∷_, _++_, append-assoc, append-nil}
-use Prim.Native.Nat.{ℕ, suc, _+_, _-_, _≤_, _<_}
-use native.Mathlib.Nat.{zero-add}
-use native.Mathlib.Omega.{arith}
-use borrow.Author.Tests.{ne-eqb, eq-eqb}
-use lib.Dec.{eqb}
-use lib.ListN.{length, take, drop, length-append, length-drop, length-map, take-append-drop}
-use lib.Seq.{drop-drop, drop-length, length-take-le, take-at, drop-at}
+use Rattle.exact.proofs.Ground.{true, false, Bool, cond, _&&_, List, [], _∷_, _++_, append-assoc, append-nil, _≡_, _∙_, sym, ap, refl, subst, ℕ, _≤_}
+use Rattle.exact.proofs.Ground.{_<_, _-_, _+_, suc, zero-add, arith, eqb, length, take, drop, length-append, length-map, length-drop}
+use Rattle.exact.proofs.Ground.{take-append-drop, length-take-le, take-at, drop-length, drop-drop, drop-at, ne-eqb, eq-eqb}
 use Rattle.exact.specs.Lists.{each}
 use Rattle.rules.specs.Plan.{columns}
 use Rattle.text.specs.declared.reading.Line.{Line}

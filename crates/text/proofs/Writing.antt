@@ -1,9 +1,5 @@
 -- Writing a number by its digits: those of a tenth of it, then the last.
-use mathlib.Core.Path.{_≡_, sym, _∙_, ap}
-use mathlib.Core.List.{List, [], _∷_}
-use Prim.Native.Nat.{ℕ, _+_, _/_, _%_, _≤_, _<_}
-use native.Mathlib.Omega.{arith}
-use lib.ListN.{length, set, length-append}
+use Rattle.exact.proofs.Ground.{List, [], _∷_, _≡_, _∙_, sym, ap, ℕ, _≤_, _<_, _+_, _/_, _%_, arith, length, set, length-append}
 use Rattle.text.specs.Bytes.{putAt}
 use Rattle.text.specs.Decimal.{decimal}
 use Rattle.text.proofs.Digits.{decimal-one, decimal-more}

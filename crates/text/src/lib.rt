@@ -8,8 +8,8 @@ ghost use Rattle.rules.specs.Plan.{plan};
 ghost use Rattle.text.specs.Text.{planOf};
 ghost use Rattle.text.specs.Reader.{planAnswer, readAnswer, refusedBy, filled};
 
-pub mod inner;
 mod reading;
+pub mod routines;
 
 // A number and the byte after it take two bytes of the text or more.
 const MOST_NUMBERS: usize = 16_384;

@@ -1,12 +1,6 @@
 -- What the routines of a whole plan are lent, and the word of one length.
-use mathlib.Core.Path.{_≡_, refl, _∙_, ap}
-use mathlib.Core.List.{List, [], _∷_, _++_, List·Memᴰ·head, List·Memᴰ·tail, List·Memᴰ·not-nil}
-use Prim.Native.Nat.{ℕ, _+_, _-_, _≤_}
-use native.Mathlib.Omega.{arith}
-use borrow.Author.Tests.{ltb-false}
-use lib.ListN.{getD, take, replicate}
-use lib.Seq.{take-at}
-use lib.IntN.{pos}
+use Rattle.exact.proofs.Ground.{List, [], _∷_, _++_, List·Memᴰ·head, List·Memᴰ·tail, List·Memᴰ·not-nil, _≡_, _∙_, ap, refl, ℕ, _≤_, _-_, _+_, arith}
+use Rattle.exact.proofs.Ground.{pos, getD, take, replicate, take-at, ltb-false}
 use Rattle.exact.specs.Lists.{from, product}
 use Rattle.exact.proofs.Numbers.{length-from, map-from-at}
 use Rattle.rules.specs.declared.Refusal.{Refusal}

@@ -1,12 +1,8 @@
 -- How large the words are: |W_j| is at most n² times the product of the levels.
-use mathlib.Core.Path.{_≡_, refl}
-use mathlib.Core.List.{List, [], _∷_, map, List·Memᴰ, List·Memᴰ·head, List·Memᴰ·tail}
-use Prim.Native.Nat.{ℕ, zero, suc, _+_, _*_, _-_, _≤_, _<_, zero-le}
-use native.Mathlib.Nat.{le-refl, le-trans, add-le-add, mul-le-mul, mul-pos, mul-le-mul-left, zero-lt-suc}
-use native.Mathlib.Omega.{arith}
-use lib.Dec.{eqb, eqb-refl, T-not}
-use lib.ListN.{length}
-use lib.IntN.{ℤ, pos, negsuc, natAbs, _-ℤ_, _*ℤ_}
+use Rattle.exact.proofs.Ground.{List, [], _∷_, map, List·Memᴰ, List·Memᴰ·head, List·Memᴰ·tail, _≡_, refl, ℕ, _≤_, _<_, _-_, _+_, _*_, suc, zero}
+use Rattle.exact.proofs.Ground.{zero-le, le-trans, mul-le-mul, mul-pos, le-refl, arith, eqb, eqb-refl, pos, ℤ, natAbs, _*ℤ_, _-ℤ_, negsuc, length}
+use native.Mathlib.Nat.{add-le-add, mul-le-mul-left, zero-lt-suc}
+use lib.Dec.{T-not}
 use Rattle.exact.specs.Lists.{sum, product}
 use Rattle.exact.proofs.Order.{natAbs-+, natAbs-*, cond-ind, sub-ind}
 use Rattle.sets.proofs.Choose.{esp}

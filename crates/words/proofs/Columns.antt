@@ -1,14 +1,7 @@
 -- Sums over the columns so far, and what one column more makes of them: a pair's scores, or levels less one.
-use mathlib.Core.Path.{_≡_, refl, sym, _∙_, ap}
-use mathlib.Core.List.{List, [], _∷_, _++_, map, List·Memᴰ}
-use Prim.Native.Nat.{ℕ, zero, suc, _+_, _-_, _≤_, _<_}
-use native.Mathlib.Nat.{zero-add, le-trans, mul-le-mul, le-refl}
-use native.Mathlib.Decide.{decLt}
-use native.Mathlib.Numerals.{add-one}
-use native.Mathlib.Omega.{arith}
-use lib.ListN.{length, getD, replicate, List·getD-eq-default}
-use lib.Seq.{ext-getD}
-use lib.IntN.{ℤ, pos, natAbs}
+use Rattle.exact.proofs.Ground.{List, [], _∷_, map, _++_, List·Memᴰ, _≡_, _∙_, sym, ap, refl, ℕ, _≤_, _<_, _-_, _+_, suc, zero, decLt, zero-add}
+use Rattle.exact.proofs.Ground.{le-trans, mul-le-mul, le-refl, add-one, arith, pos, ℤ, natAbs, length, getD, replicate, List·getD-eq-default}
+use Rattle.exact.proofs.Ground.{ext-getD}
 use Rattle.exact.specs.Lists.{from, product}
 use Rattle.exact.proofs.Numbers.{length-from, mem-from, from-add, from-snoc, length-map-from, map-from-at}
 use Rattle.rules.specs.Plan.{Plan, columns, level, everyColumn, mostColumns, highestProduct}

@@ -1,9 +1,5 @@
--- Document 01, "Worked figures": words and row sums of these plans, from the definitions.
-use mathlib.Core.Path.{_≡_, refl}
-use mathlib.Core.List.{List, [], _∷_, map}
-use Prim.Native.Nat.{ℕ}
-use lib.IntN.{ℤ, pos, negsuc}
-use lib.ListN.{length, take}
+-- Worked figures: words and row sums of these plans, from the definitions.
+use Rattle.exact.proofs.Ground.{List, [], _∷_, map, _≡_, refl, ℕ, pos, ℤ, negsuc, length, take}
 use Rattle.exact.specs.Lists.{from}
 use Rattle.rules.specs.Plan.{Plan, plan, columns, level, entry, everyColumn, everyRun}
 use Rattle.words.specs.Words.{score, wordOf, word, pairSum, rowSum}
@@ -40,36 +36,14 @@ listed = plan (2 ∷ 3 ∷ []) (0 ∷ 0 ∷ 0 ∷ 1 ∷ 1 ∷ 2 ∷ [])
 abbrev graded : Plan
 graded = plan (2 ∷ 1 ∷ 3 ∷ []) (0 ∷ 0 ∷ 0 ∷ 0 ∷ 0 ∷ 1 ∷ 1 ∷ 0 ∷ 2 ∷ [])
 
--- levels 2,2,2, runs 000 011 101 110
-abbrev half : Plan
-half = plan (2 ∷ 2 ∷ 2 ∷ []) (0 ∷ 0 ∷ 0 ∷ 0 ∷ 1 ∷ 1 ∷ 1 ∷ 0 ∷ 1 ∷ 1 ∷ 1 ∷ 0 ∷ [])
-
--- levels 3,2, all six runs, and one run
-abbrev full : Plan
-full = plan (3 ∷ 2 ∷ []) (0 ∷ 0 ∷ 0 ∷ 1 ∷ 1 ∷ 0 ∷ 1 ∷ 1 ∷ 2 ∷ 0 ∷ 2 ∷ 1 ∷ [])
-
-abbrev single : Plan
-single = plan (3 ∷ 2 ∷ []) (2 ∷ 1 ∷ [])
-
--- in the paper's order, after the words that the listing prints; a struck run is left out of the list
+-- beside the paper's starred figures, which stand in `planner` Starred: the words that the listing prints
 figures : List Figure
 figures =
     is (words listed (everyRun listed)) (pos 1 ∷ pos 8 ∷ [])
-    ∷ is (rowSums listed (everyRun listed) 1) (pos 1 ∷ pos 1 ∷ negsuc 0 ∷ [])
-    ∷ is (rowSums listed (everyRun listed) 2) (pos 2 ∷ pos 2 ∷ pos 4 ∷ [])
-    ∷ is (words listed (1 ∷ 2 ∷ [])) (pos 2 ∷ pos 6 ∷ [])
-    ∷ is (words listed (0 ∷ 1 ∷ [])) (pos 6 ∷ pos 2 ∷ [])
-    ∷ is (words half (everyRun half)) (pos 0 ∷ pos 0 ∷ pos 16 ∷ [])
-    ∷ is (words half (1 ∷ 2 ∷ 3 ∷ [])) (pos 3 ∷ pos 3 ∷ pos 9 ∷ [])
-    ∷ is (words half (0 ∷ 2 ∷ 3 ∷ [])) (pos 3 ∷ pos 3 ∷ pos 9 ∷ [])
-    ∷ is (words half (0 ∷ 1 ∷ 3 ∷ [])) (pos 3 ∷ pos 3 ∷ pos 9 ∷ [])
-    ∷ is (words half (0 ∷ 1 ∷ 2 ∷ [])) (pos 3 ∷ pos 3 ∷ pos 9 ∷ [])
-    ∷ is (words full (everyRun full)) (pos 0 ∷ pos 0 ∷ [])
-    ∷ is (words single (everyRun single)) (pos 3 ∷ pos 2 ∷ [])
-    -- not of the paper: the column of one level adds to no word
+    -- the column of one level adds to no word
     ∷ is (words graded (everyRun graded)) (pos 1 ∷ pos 8 ∷ pos 0 ∷ [])
     ∷ is (rowSums graded (everyRun graded) 2) (pos 2 ∷ pos 2 ∷ pos 4 ∷ [])
-    -- nor this: the words of the first plan as they are added up, E being 3 and 2
+    -- the words of the first plan as they are added up, E being 3 and 2
     ∷ is (pairsOnce listed (everyRun listed)) (negsuc 3 ∷ pos 1 ∷ [])
     ∷ is (inBothOrders 3 (pos 3 ∷ pos 2 ∷ []) (negsuc 3 ∷ pos 1 ∷ [])) (pos 1 ∷ pos 8 ∷ [])
     ∷ []

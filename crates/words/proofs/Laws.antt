@@ -1,10 +1,6 @@
 -- The words by pairs of runs and by rows; what a strike and a reinstatement do to them.
-use mathlib.Core.Path.{_≡_, refl, sym, _∙_, ap, ap₂}
-use mathlib.Core.List.{List, [], _∷_, _++_, List·Memᴰ}
-use Prim.Native.Nat.{ℕ, _<_}
-use lib.Dec.{eqb, eqb→eq, eqb-refl}
-use lib.ListN.{length}
-use lib.IntN.{ℤ, pos, negsuc, _+ℤ_, _-ℤ_, _*ℤ_}
+use Rattle.exact.proofs.Ground.{List, [], _∷_, _++_, List·Memᴰ, _≡_, _∙_, sym, ap, refl, ap₂, ℕ, _<_, eqb, eqb→eq, eqb-refl, pos, ℤ, _*ℤ_, _+ℤ_, _-ℤ_}
+use Rattle.exact.proofs.Ground.{negsuc, length}
 use Rattle.exact.specs.Lists.{sum, prod}
 use Rattle.exact.proofs.Ring.{ring}
 use Rattle.exact.proofs.Sums.{sum-cong, sum-cong-in, prod-cong, sum-swap, sum-+, sum-at, sum-0}

@@ -1,16 +1,7 @@
 -- A room with a place for each number, in which the numbers of a list are marked one after the other.
-use mathlib.Core.Path.{_≡_, refl, sym, _∙_, ap}
-use mathlib.Core.Bool.{Bool, true, false, _||_}
-use mathlib.Core.List.{List, [], _∷_, _++_, map}
-use Prim.Native.Nat.{ℕ, _+_, _<_}
-use native.Mathlib.Decide.{ℕ-discrete}
-use native.Mathlib.Nat.{zero-add}
-use native.Mathlib.Numerals.{add-one}
-use native.Mathlib.Omega.{arith}
-use borrow.Author.Tests.{eq-eqb, ne-eqb}
-use lib.Dec.{eqb}
-use lib.ListN.{length, getD, set, take, length-set}
-use lib.Seq.{ext-getD, getD-set-same, getD-set-other, take-suc}
+use Rattle.exact.proofs.Ground.{true, false, Bool, _||_, List, [], _∷_, map, _++_, _≡_, _∙_, sym, ap, refl, ℕ, _<_, _+_, ℕ-discrete, zero-add}
+use Rattle.exact.proofs.Ground.{add-one, arith, eqb, length, getD, take, set, length-set, take-suc, ext-getD, ne-eqb, eq-eqb}
+use lib.Seq.{getD-set-same, getD-set-other}
 use Rattle.exact.specs.Lists.{from, holds}
 use Rattle.exact.proofs.Numbers.{length-map-from, map-from-at}
 

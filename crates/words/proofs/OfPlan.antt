@@ -1,13 +1,7 @@
 -- The laws, of some runs of a plan.
-use mathlib.Core.Path.{_≡_, refl, sym}
-use mathlib.Core.Bool.{Bool, cond}
-use mathlib.Core.List.{List, [], _∷_, List·Memᴰ, List·Memᴰ·head, List·Memᴰ·not-nil, List·Memᴰ·eq-of-singleton}
-use Prim.Native.Nat.{ℕ, _*_, _^_, _≤_, _<_}
-use native.Mathlib.Nat.{le-trans, mul-le-mul}
-use native.Mathlib.Omega.{arith}
-use lib.IntN.{ℤ, pos, natAbs, _-ℤ_}
-use lib.ListN.{length, take, drop, replicate, length-take}
-use lib.Signed.{_≤ℤ_}
+use Rattle.exact.proofs.Ground.{Bool, cond, List, [], _∷_, List·Memᴰ, List·Memᴰ·head, List·Memᴰ·not-nil, List·Memᴰ·eq-of-singleton, _≡_, sym, refl, ℕ}
+use Rattle.exact.proofs.Ground.{_≤_, _<_, _*_, _^_, le-trans, mul-le-mul, arith, pos, ℤ, natAbs, _-ℤ_, length, take, drop, replicate, _≤ℤ_}
+use lib.ListN.{length-take}
 use Rattle.exact.specs.Lists.{product}
 use Rattle.exact.proofs.Members.{take-mem}
 use Rattle.exact.proofs.Numbers.{length-from, mem-from, mul-below, map-from-cong}

@@ -1,11 +1,6 @@
 -- The words from the sums over each pair of different runs once, and the turns of a loop from the last run down.
-use mathlib.Core.Path.{_≡_, refl, sym, _∙_, ap}
-use mathlib.Core.List.{List, [], _∷_, List·Memᴰ, List·Memᴰ·head, List·Memᴰ·tail}
-use Prim.Native.Nat.{ℕ, _*_, _-_, _^_, _≤_, _<_, zero-le}
-use native.Mathlib.Nat.{le-trans, mul-le-mul-right}
-use native.Mathlib.Omega.{arith}
-use lib.IntN.{ℤ, pos, natAbs, _+ℤ_, _*ℤ_, +ℤ-comm}
-use lib.ListN.{length, getD, drop, length-drop}
+use Rattle.exact.proofs.Ground.{List, [], _∷_, List·Memᴰ, List·Memᴰ·head, List·Memᴰ·tail, _≡_, _∙_, sym, ap, refl, ℕ, _≤_, _<_, _-_, _*_, _^_}
+use Rattle.exact.proofs.Ground.{zero-le, le-trans, mul-le-mul-right, arith, pos, ℤ, natAbs, _*ℤ_, _+ℤ_, +ℤ-comm, length, getD, drop, length-drop}
 use Rattle.exact.specs.Lists.{sum}
 use Rattle.exact.proofs.Lists.{drop-back, mem-drop}
 use Rattle.exact.proofs.Numbers.{map-from-cong}

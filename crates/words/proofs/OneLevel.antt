@@ -1,12 +1,5 @@
 -- A column of one level scores 0 for every two runs, so that a set which holds it adds nothing to any word: it may be left out.
-use mathlib.Core.Path.{_≡_, _∙_, ap}
-use mathlib.Core.Bool.{false}
-use mathlib.Core.List.{List, List·Memᴰ}
-use Prim.Native.Nat.{ℕ, _<_}
-use native.Mathlib.Omega.{arith}
-use borrow.Author.Tests.{ltb-false}
-use lib.Dec.{ltb}
-use lib.IntN.{ℤ, pos, _-ℤ_}
+use Rattle.exact.proofs.Ground.{false, List, List·Memᴰ, _≡_, _∙_, ap, ℕ, _<_, arith, ltb, pos, ℤ, _-ℤ_, ltb-false}
 use Rattle.exact.specs.Lists.{sum, prod, all}
 use Rattle.exact.proofs.Sums.{sum-cong-in, sum-0, prod-0, sum-keep}
 use Rattle.exact.proofs.Members.{some-fails}
@@ -15,8 +8,8 @@ use Rattle.sets.specs.Sets.{choose}
 use Rattle.sets.proofs.Choose.{choose-keep}
 use Rattle.sets.proofs.Parts.{part-mem, choose-part}
 use Rattle.words.specs.Words.{score, scoreAt, wordOf, word, rowSum, diagonal}
+use Rattle.words.specs.Entries.{Below, AllBelow}
 use Rattle.words.proofs.Laws.{score-agrees}
-use Rattle.words.proofs.Positive.{Below}
 
 pub score-one : (s a b : ℕ) → s ≡ 1 → a < s → b < s → score s a b ≡ pos 0
 score-one s a b e h l = score-agrees s a b (omega arith) ∙ ap (λ s. pos s -ℤ pos 1) e
@@ -58,7 +51,7 @@ module _ {R C : Type 0} (level : C → ℕ) (entry : R → C → ℕ) (runs : Li
   unfolding wordOf
   one-level-word i e v I n = sum-cong-in runs (one-level-row i e v I n) ∙ sum-0 runs
 
-  module _ (cols : List C) (v : (i : C) → List·Memᴰ i cols → Below level entry runs i) (j : ℕ) where
+  module _ (cols : List C) (v : AllBelow level entry runs cols) (j : ℕ) where
     pub words-several : word level entry runs cols j ≡ word level entry runs (several level cols) j
     unfolding word
     words-several = sum-several level cols (λ i m. v i m .0) j (wordOf level entry runs) (λ i m e. one-level-word i e (v i m))

@@ -1,9 +1,7 @@
 -- W(I) is never negative: with each run weighed by any number, the sum over pairs is a sum of squares, taken a column at a time.
-use mathlib.Core.Path.{_≡_, refl, sym, _∙_, ap}
-use mathlib.Core.List.{List, [], _∷_, List·Memᴰ, List·Memᴰ·head, List·Memᴰ·tail}
-use Prim.Native.Nat.{ℕ, _<_}
-use lib.IntN.{ℤ, pos, _*ℤ_, *ℤ-comm}
-use lib.Signed.{_≤ℤ_, ≤ℤ-refl}
+use Rattle.exact.proofs.Ground.{List, [], _∷_, List·Memᴰ, List·Memᴰ·head, List·Memᴰ·tail, _≡_, _∙_, sym, ap, refl, ℕ, pos, ℤ, _*ℤ_, _≤ℤ_}
+use lib.IntN.{*ℤ-comm}
+use lib.Signed.{≤ℤ-refl}
 use Rattle.exact.specs.Lists.{from, sum, prod}
 use Rattle.exact.proofs.Ring.{ring, *-one, one-*}
 use Rattle.exact.proofs.Order.{0≤-+, 0≤-square, 0≤-cancel}
@@ -11,6 +9,7 @@ use Rattle.exact.proofs.Sums.{sum-cong, sum-cong-in, sum-*, sum-swap}
 use Rattle.sets.specs.Sets.{choose}
 use Rattle.sets.proofs.Parts.{part-mem, choose-part}
 use Rattle.words.specs.Words.{scoreAt, wordOf, word}
+use Rattle.words.specs.Entries.{Below, AllBelow}
 use Rattle.words.proofs.Squares.{spread, score-squares}
 
 module _ {A : Type 0} where
@@ -66,15 +65,11 @@ module _ {R C : Type 0} (level : C → ℕ) (entry : R → C → ℕ) (runs : Li
   pub weighed : List C → (R → ℤ) → ℤ
   weighed I w = pairs runs w (λ f g. prod I (scoreAt level entry f g))
 
-  -- the entries of column i are below its level
-  abbrev pub Below : C → Type 0
-  Below i = (0 < level i) × ((f : R) → List·Memᴰ f runs → entry f i < level i)
-
   pub weighed-nil : (w : R → ℤ) → weighed [] w ≡ sum runs w *ℤ sum runs w
   unfolding weighed
   weighed-nil w = pairs-one runs w
 
-  pub weighed-cons : (i : C) (I : List C) (w : R → ℤ) → Below i →
+  pub weighed-cons : (i : C) (I : List C) (w : R → ℤ) → Below level entry runs i →
       pos (level i) *ℤ weighed (i ∷ I) w ≡ sum (from 0 (level i)) (λ a. weighed I (λ f. w f *ℤ spread (level i) (entry f i) a))
   unfolding weighed
   weighed-cons i I w v =
@@ -82,7 +77,7 @@ module _ {R C : Type 0} (level : C → ℕ) (entry : R → C → ℕ) (runs : Li
       (λ f a. spread (level i) (entry f i) a) w
       (λ f mf g mg. score-squares (level i) (entry f i) (entry g i) (v .1 f mf) (v .1 g mg))
 
-  pub weighed-nonneg : (I : List C) (w : R → ℤ) → ((i : C) → List·Memᴰ i I → Below i) → pos 0 ≤ℤ weighed I w
+  pub weighed-nonneg : (I : List C) (w : R → ℤ) → AllBelow level entry runs I → pos 0 ≤ℤ weighed I w
   weighed-nonneg [] w v = rw (weighed-nil w) (0≤-square (sum runs w))
   weighed-nonneg (i ∷ I) w v =
       let next : ℕ → R → ℤ = λ a f. w f *ℤ spread (level i) (entry f i) a in
@@ -96,10 +91,10 @@ module _ {R C : Type 0} (level : C → ℕ) (entry : R → C → ℕ) (runs : Li
   wordOf-weighed I = sym (pairs-plain runs (λ f g. prod I (scoreAt level entry f g)))
 
   -- no W(I) is negative, and so no word is
-  pub wordOf-nonneg : (I : List C) → ((i : C) → List·Memᴰ i I → Below i) → pos 0 ≤ℤ wordOf level entry runs I
+  pub wordOf-nonneg : (I : List C) → AllBelow level entry runs I → pos 0 ≤ℤ wordOf level entry runs I
   wordOf-nonneg I v = rw (wordOf-weighed I) (weighed-nonneg I (λ f. pos 1) v)
 
-  pub word-nonneg : (cols : List C) → ((i : C) → List·Memᴰ i cols → Below i) → (j : ℕ) → pos 0 ≤ℤ word level entry runs cols j
+  pub word-nonneg : (cols : List C) → AllBelow level entry runs cols → (j : ℕ) → pos 0 ≤ℤ word level entry runs cols j
   unfolding word
   word-nonneg cols v j =
       sum-nonneg (choose j cols) (wordOf level entry runs)

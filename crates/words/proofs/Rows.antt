@@ -1,13 +1,8 @@
 -- Rows of sums by word length, over plain lists: one column more, in place.
-use mathlib.Core.Path.{_≡_, refl, sym, _∙_, ap}
-use mathlib.Core.List.{List, _++_}
-use Prim.Native.Nat.{ℕ, suc, _+_, _-_, _≤_, _<_}
-use native.Mathlib.Nat.{zero-add}
-use native.Mathlib.Numerals.{add-one}
-use native.Mathlib.Omega.{arith}
-use lib.ListN.{length, getD, set, take, drop, length-drop, take-append-drop, List·getD-append}
-use lib.Seq.{ext-getD, getD-drop, getD-take, take-suc, drop-cons, length-take-le, append-snoc, set-at}
-use lib.IntN.{ℤ, pos, _+ℤ_, _*ℤ_, *ℤ-zero}
+use Rattle.exact.proofs.Ground.{List, _++_, _≡_, _∙_, sym, ap, refl, ℕ, _≤_, _<_, _-_, _+_, suc, zero-add, add-one, arith, pos, ℤ, _*ℤ_, _+ℤ_}
+use Rattle.exact.proofs.Ground.{*ℤ-zero, length, getD, take, drop, set, length-drop, List·getD-append, take-append-drop, length-take-le, take-suc}
+use Rattle.exact.proofs.Ground.{drop-cons, getD-take, getD-drop, ext-getD, append-snoc}
+use lib.Seq.{set-at}
 use Rattle.exact.proofs.Numbers.{length-map-from, map-from-at}
 use Rattle.rules.specs.Plan.{mostColumns}
 use Rattle.words.specs.Given.{OfColumns, withColumn}

@@ -1,12 +1,6 @@
 -- Row sums filled pair by pair: the rows of the first k places of a list, over the first k runs. The pairs of a run with itself come at the end.
-use mathlib.Core.Path.{_≡_, sym, _∙_, ap}
-use mathlib.Core.List.{List, [], _∷_, _++_, map}
-use Prim.Native.Nat.{ℕ, _+_, _^_, _<_}
-use native.Mathlib.Nat.{zero-add}
-use native.Mathlib.Omega.{arith}
-use lib.IntN.{ℤ, _+ℤ_, _-ℤ_}
-use lib.ListN.{length, getD, set, take, drop, replicate, length-replicate, List·getD-append}
-use lib.Seq.{take-length, drop-at}
+use Rattle.exact.proofs.Ground.{List, [], _∷_, map, _++_, _≡_, _∙_, sym, ap, ℕ, _<_, _+_, _^_, zero-add, arith, ℤ, _+ℤ_, _-ℤ_, length, getD, take}
+use Rattle.exact.proofs.Ground.{drop, replicate, set, List·getD-append, length-replicate, drop-at, take-length}
 use Rattle.exact.specs.Lists.{from}
 use Rattle.exact.proofs.Numbers.{map-from-at, map-from-cong}
 use Rattle.exact.proofs.Order.{natAbs--}

@@ -1,12 +1,6 @@
 -- A column's score, times its level, is a sum of products: one for each level, of a number of the one run and the same number of the other.
-use mathlib.Core.Path.{_≡_, refl, sym, _∙_, ap}
-use mathlib.Core.Bool.{Bool, true, false, cond}
-use mathlib.Core.Logic.{_⊎_, inl, inr}
-use Prim.Native.Nat.{ℕ, zero, suc, _+_, _≤_, _<_, zero-le}
-use native.Mathlib.Nat.{eq-or-lt-of-le}
-use native.Mathlib.Omega.{arith}
-use lib.Dec.{eqb, eqb→eq, eqb-refl}
-use lib.IntN.{ℤ, pos, negsuc, negℤ, _+ℤ_, _-ℤ_, _*ℤ_, *ℤ-zero, zero-*ℤ, +ℤ-idl, +ℤ-idr}
+use Rattle.exact.proofs.Ground.{true, false, Bool, cond, _⊎_, inl, inr, _≡_, _∙_, sym, ap, refl, ℕ, _≤_, _<_, _+_, suc, zero, zero-le, eq-or-lt-of-le}
+use Rattle.exact.proofs.Ground.{arith, eqb, eqb→eq, eqb-refl, pos, ℤ, _*ℤ_, _+ℤ_, _-ℤ_, negsuc, negℤ, +ℤ-idl, +ℤ-idr, *ℤ-zero, zero-*ℤ}
 use Rattle.exact.specs.Lists.{from, sum}
 use Rattle.exact.proofs.Ring.{ring, *-one, one-*}
 use Rattle.exact.proofs.Numbers.{length-from}

@@ -1,14 +1,8 @@
 -- Sums over the runs so far, for each word length: a row over its pairs.
-use mathlib.Core.Path.{_≡_, refl, sym, _∙_, ap}
-use mathlib.Core.List.{List, [], _∷_, List·Memᴰ}
-use Prim.Native.Nat.{ℕ, _+_, _-_, _*_, _≤_, _<_}
-use native.Mathlib.Decide.{decLt}
-use native.Mathlib.Nat.{le-trans, mul-le-mul-right}
-use native.Mathlib.Numerals.{add-one}
-use native.Mathlib.Omega.{arith}
-use lib.ListN.{length, getD, take, length-take, List·getD-eq-default}
-use lib.Seq.{ext-getD, getD-take, take-suc}
-use lib.IntN.{ℤ, pos, natAbs, _+ℤ_, +ℤ-idl, +ℤ-idr, +ℤ-assoc}
+use Rattle.exact.proofs.Ground.{List, [], _∷_, List·Memᴰ, _≡_, _∙_, sym, ap, refl, ℕ, _≤_, _<_, _-_, _+_, _*_, decLt, le-trans, mul-le-mul-right}
+use Rattle.exact.proofs.Ground.{add-one, arith, pos, ℤ, natAbs, _+ℤ_, +ℤ-idl, +ℤ-idr, +ℤ-assoc, length, getD, take, List·getD-eq-default, take-suc}
+use Rattle.exact.proofs.Ground.{getD-take, ext-getD}
+use lib.ListN.{length-take}
 use Rattle.exact.specs.Lists.{sum}
 use Rattle.exact.proofs.Order.{natAbs-+}
 use Rattle.exact.proofs.Sums.{sum-++}

@@ -6,7 +6,7 @@ ghost use Rattle.rules.specs.Plan.{plan, everyRun};
 ghost use Rattle.rules.specs.Refusals.{ofPlan};
 ghost use Rattle.words.specs.Answers.{wordsAnswer, wordAnswer, rowSumsAnswer, diagonalAnswer};
 
-pub mod inner;
+pub mod routines;
 
 // A number for each word length, length 1 first.
 pub struct Sums {
@@ -38,18 +38,18 @@ pub struct DiagonalAnswer {
 pub fn words(levels: &[u8], table: &[u8]) -> WordsAnswer
     ensures { λ r. ⌜ (let p = plan (now (levels .entry)) (now (table .entry)) in r ≡ wordsAnswer p (everyRun p) (ofPlan p)) ⌝ }
 {
-    inner::words_answer(plan::check(levels, table), levels, table)
+    routines::words_answer(plan::check(levels, table), levels, table)
 }
 
 // The scaled word of one length.
 pub fn word(levels: &[u8], table: &[u8], length: usize) -> WordAnswer
     ensures { λ r. ⌜ (let p = plan (now (levels .entry)) (now (table .entry)) in r ≡ wordAnswer p (everyRun p) (ofPlan p) length) ⌝ }
 {
-    let refused = plan::check(levels, table).or_else(inner::check_length(levels.len(), length));
+    let refused = plan::check(levels, table).or_else(routines::check_length(levels.len(), length));
     if refused.number != 0 {
         return WordAnswer { refused, word: 0 };
     }
-    let words = inner::words_of_plan(levels, table);
+    let words = routines::words_of_plan(levels, table);
     WordAnswer {
         refused,
         word: words[length - 1],
@@ -60,10 +60,10 @@ pub fn word(levels: &[u8], table: &[u8], length: usize) -> WordAnswer
 pub fn row_sums(levels: &[u8], table: &[u8]) -> RowSumsAnswer
     ensures { λ r. ⌜ (let p = plan (now (levels .entry)) (now (table .entry)) in r ≡ rowSumsAnswer p (everyRun p) (ofPlan p)) ⌝ }
 {
-    let checked = plan::inner::checked_runs(levels, table);
+    let checked = plan::routines::checked_runs(levels, table);
     let runs = checked.runs;
     let count = checked.count;
-    inner::row_sums_answer(checked.refused, levels, table, &runs[..count])
+    routines::row_sums_answer(checked.refused, levels, table, &runs[..count])
 }
 
 // E_1, E_2, .., of levels alone.
@@ -77,6 +77,6 @@ pub fn diagonal(levels: &[u8]) -> DiagonalAnswer
             sums: [0; 24],
         };
     }
-    let sums = inner::diagonal(levels);
+    let sums = routines::diagonal(levels);
     DiagonalAnswer { refused, sums }
 }

@@ -1,7 +1,5 @@
 -- Worked figures of the writer, by computation: document 01's four lines.
-use mathlib.Core.Path.{_≡_, refl}
-use mathlib.Core.List.{[], _∷_, map}
-use Prim.Native.Nat.{ℕ}
+use Rattle.exact.proofs.Ground.{[], _∷_, map, _≡_, refl, ℕ}
 use Rattle.rules.specs.declared.Refusal.{Refusal}
 use Rattle.rules.specs.Plan.{Plan, plan, everyRun}
 use Rattle.rules.specs.Refusals.{accepted, plain, placed, ofPlan, firstBadLevel, firstBadEntry}

@@ -1,10 +1,6 @@
 -- Writing a line: its first number, then each later one behind a comma, then the line feed.
-use mathlib.Core.Path.{_≡_, sym, _∙_, ap}
-use mathlib.Core.List.{List, [], _∷_, _++_, map, append-nil}
-use Prim.Native.Nat.{ℕ, suc, _+_, _*_, _-_, _≤_, _<_}
-use native.Mathlib.Omega.{arith}
-use lib.ListN.{length, getD, set, take, drop, length-drop}
-use lib.Seq.{take-suc, take-all, getD-drop}
+use Rattle.exact.proofs.Ground.{List, [], _∷_, map, _++_, append-nil, _≡_, _∙_, sym, ap, ℕ, _≤_, _<_, _-_, _+_, _*_, suc, arith, length, getD, take}
+use Rattle.exact.proofs.Ground.{drop, set, length-drop, take-suc, take-all, getD-drop}
 use Rattle.exact.specs.Lists.{each}
 use Rattle.text.specs.Bytes.{putAt, Put}
 use Rattle.text.specs.Decimal.{decimal}

@@ -1,11 +1,9 @@
 -- The runs of a plan as rows of its table: the table is the rows one after the other, and a row is a stretch of it.
-use mathlib.Core.Path.{_≡_, refl, sym, _∙_, ap, ap₂}
-use mathlib.Core.List.{List, [], _∷_, _++_, map, append-assoc, List·Memᴰ, List·Memᴰ·head, List·Memᴰ·tail}
-use Prim.Native.Nat.{ℕ, zero, suc, _+_, _*_, _-_, _≤_, _<_}
-use native.Mathlib.Nat.{suc-mul, mul-div-cancel, zero-mul, zero-add}
-use native.Mathlib.Omega.{arith}
-use lib.ListN.{length, getD, take, drop, length-append, length-drop, take-append-drop}
-use lib.Seq.{length-take-le, getD-take, getD-drop, take-append-seam, drop-at, drop-drop}
+use Rattle.exact.proofs.Ground.{List, [], _∷_, map, _++_, List·Memᴰ, List·Memᴰ·head, List·Memᴰ·tail, append-assoc, _≡_, _∙_, sym, ap, refl, ap₂, ℕ}
+use Rattle.exact.proofs.Ground.{_≤_, _<_, _-_, _+_, _*_, suc, zero, zero-add, suc-mul, zero-mul, arith, length, getD, take, drop, length-append}
+use Rattle.exact.proofs.Ground.{length-drop, take-append-drop, length-take-le, getD-take, getD-drop, drop-drop, drop-at}
+use native.Mathlib.Nat.{mul-div-cancel}
+use lib.Seq.{take-append-seam}
 use Rattle.exact.specs.Lists.{from, each}
 use Rattle.exact.proofs.Numbers.{length-map-from, map-from-at, map-places, mem-from}
 use Rattle.exact.proofs.Lists.{map-cong-in}

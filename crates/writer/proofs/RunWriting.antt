@@ -1,12 +1,6 @@
 -- Writing a text: the line of the levels, then that of each run.
-use mathlib.Core.Path.{_≡_, refl, sym, _∙_, ap}
-use mathlib.Core.List.{List, [], _∷_, _++_, map, append-assoc}
-use Prim.Native.Nat.{ℕ, suc, _+_, _*_, _-_, _≤_, _<_, _^_}
-use native.Mathlib.Nat.{suc-mul}
-use native.Mathlib.Numerals.{add-one}
-use native.Mathlib.Omega.{arith}
-use lib.ListN.{length, getD, take, drop}
-use lib.Seq.{take-suc, take-all}
+use Rattle.exact.proofs.Ground.{List, [], _∷_, map, _++_, append-assoc, _≡_, _∙_, sym, ap, refl, ℕ, _≤_, _<_, _-_, _+_, _*_, suc, _^_, suc-mul}
+use Rattle.exact.proofs.Ground.{add-one, arith, length, getD, take, drop, take-suc, take-all}
 use Rattle.exact.specs.Lists.{each}
 use Rattle.exact.proofs.Numbers.{mul-below}
 use Rattle.exact.proofs.Members.{getD-mem}

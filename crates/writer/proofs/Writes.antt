@@ -1,12 +1,5 @@
 -- What the writer answers, and its room: by the plan's checks, then by the length of the room.
-use mathlib.Core.Path.{_≡_, refl, _∙_}
-use mathlib.Core.Bool.{Bool, true, false, cond}
-use mathlib.Core.List.{List, [], _∷_}
-use Prim.Native.Nat.{ℕ, _≤_, _<_}
-use native.Mathlib.Decide.{ℕ-discrete}
-use native.Mathlib.Omega.{arith}
-use borrow.Author.Tests.{lt-ltb, le-ltb}
-use lib.ListN.{length}
+use Rattle.exact.proofs.Ground.{true, false, Bool, cond, List, [], _∷_, _≡_, _∙_, refl, ℕ, _≤_, _<_, ℕ-discrete, arith, length, le-ltb, lt-ltb}
 use Rattle.exact.specs.Lists.{into}
 use Rattle.rules.specs.declared.Refusal.{Refusal}
 use Rattle.rules.specs.Plan.{Plan, everyRun}

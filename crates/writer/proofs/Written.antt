@@ -1,11 +1,6 @@
 -- Request #101: reading what is written gives the plan back, and a plan has only one text; the text of a good plan is short enough.
-use mathlib.Core.Path.{_≡_, refl, sym, _∙_, ap, ap₂, subst}
-use mathlib.Core.List.{List, [], _∷_, _++_, map}
-use Prim.Native.Nat.{ℕ, suc, _*_, _≤_, _<_}
-use native.Mathlib.Nat.{suc-mul}
-use native.Mathlib.Omega.{arith}
-use borrow.Author.Tests.{ne-eqb}
-use lib.ListN.{length, length-append, length-map}
+use Rattle.exact.proofs.Ground.{List, [], _∷_, map, _++_, _≡_, _∙_, sym, ap, refl, ap₂, subst, ℕ, _≤_, _<_, _*_, suc, suc-mul, arith, length}
+use Rattle.exact.proofs.Ground.{length-append, length-map, ne-eqb}
 use Rattle.exact.specs.Lists.{each}
 use Rattle.exact.proofs.Numbers.{mul-below}
 use Rattle.rules.specs.Plan.{Plan, plan, columns, everyRun, longestText}

@@ -7,7 +7,7 @@ ghost use Rattle.rules.specs.Refusals.{ofPlan};
 ghost use Rattle.text.specs.Reader.{filled};
 ghost use Rattle.writer.specs.Writer.{writeText, writeAnswer};
 
-pub mod inner;
+pub mod routines;
 
 // No text of an accepted plan is longer: a line of levels and 256 runs, each of 24 numbers of two digits.
 pub const MOST_BYTES: usize = 18_504;
@@ -30,6 +30,6 @@ pub fn write(levels: &[u8], table: &[u8], room: &mut [u8]) -> WriteAnswer
         return WriteAnswer { refused, bytes: 0 };
     }
     let n = table.len() / levels.len();
-    let every = plan::inner::every_run(n);
-    inner::write_runs(levels, table, &every[..n], room)
+    let every = plan::routines::every_run(n);
+    routines::write_runs(levels, table, &every[..n], room)
 }

@@ -1,13 +1,11 @@
 -- `advice` meets its contract: the routine is handed the plan's refusal and all its runs.
-use mathlib.Core.Path.{_∙_}
-use Prim.Native.Nat.{ℕ}
+use Rattle.exact.proofs.Ground.{_∙_, ℕ, needs}
 use Rattle.rules.specs.declared.Refusal.{Refusal}
 use Rattle.rules.specs.Plan.{Plan, plan}
 use Rattle.plan.proofs.CheckedRuns.{checked-fits, checked-long, checked-good, checked-every, handed-answer}
 use Rattle.advice.specs.declared.AdviceAnswer.{AdviceAnswer}
 use Rattle.advice.specs.Advice.{advice, adviceChecks, adviceAnswer}
 use Rattle.advice.proofs.Enough.{good-standing}
-use borrow.Author.Needs.{needs}
 use Rattle.advice.proofs.advice.Statement.{statement}
 use Rattle.advice.proofs.advice.Tie as tie
 
@@ -16,9 +14,6 @@ make r f = record { refused = r; run = f }
 
 abbrev given : tie.After-checked-runs → Plan
 given k = let a = k .before .before .before .args in plan (a .levels .now) (a .table .now)
-
-checked-runs-requires : tie.Need-checked-runs-requires
-checked-runs-requires c κs = search needs
 
 array-share-prefix-runs : tie.Need-array-share-prefix-runs
 array-share-prefix-runs c = let k = c .before in checked-fits (given k) (k .checked-runs .ensures)
@@ -43,7 +38,7 @@ pub advice-spec : {M : Type 1} → statement M
 advice-spec =
     tie.close
     (tie.spec
-    checked-runs-requires
+    (λ c κs. search needs)
     array-share-prefix-runs
     slice-aggregate-advice-answer
     advice-answer-requires

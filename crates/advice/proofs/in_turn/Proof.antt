@@ -1,8 +1,5 @@
 -- `in_turn` meets its contract: the routine is handed the plan's refusal and all its runs.
-use mathlib.Core.Path.{_∙_}
-use mathlib.Core.List.{List}
-use Prim.Native.Nat.{ℕ}
-use lib.ListN.{replicate}
+use Rattle.exact.proofs.Ground.{List, _∙_, ℕ, replicate, needs}
 use Rattle.exact.specs.Lists.{filledTo}
 use Rattle.rules.specs.declared.Refusal.{Refusal}
 use Rattle.rules.specs.Plan.{Plan, plan}
@@ -10,7 +7,6 @@ use Rattle.plan.proofs.CheckedRuns.{checked-fits, checked-long, checked-good, c
 use Rattle.advice.specs.declared.TurnsAnswer.{TurnsAnswer}
 use Rattle.advice.specs.Advice.{inTurn, turnsChecks, turnsAnswer}
 use Rattle.advice.proofs.Enough.{good-standing}
-use borrow.Author.Needs.{needs}
 use Rattle.advice.proofs.in_turn.Statement.{statement}
 use Rattle.advice.proofs.in_turn.Tie as tie
 
@@ -19,9 +15,6 @@ make r fs = record { refused = r; runs = fs }
 
 abbrev given : tie.After-checked-runs → Plan
 given k = let a = k .before .before .before .args in plan (a .levels .now) (a .table .now)
-
-checked-runs-requires : tie.Need-checked-runs-requires
-checked-runs-requires c κs = search needs
 
 array-share-prefix-runs : tie.Need-array-share-prefix-runs
 array-share-prefix-runs c = let k = c .before in checked-fits (given k) (k .checked-runs .ensures)
@@ -47,7 +40,7 @@ pub in-turn-spec : {M : Type 1} → statement M
 in-turn-spec =
     tie.close
     (tie.spec
-    checked-runs-requires
+    (λ c κs. search needs)
     array-share-prefix-runs
     slice-aggregate-turns-answer
     turns-answer-requires

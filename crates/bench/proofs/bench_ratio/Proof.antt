@@ -1,15 +1,11 @@
 -- `bench::bench_ratio` meets its contract: thousandths are few, so that they fit.
-use mathlib.Core.Path.{_∙_}
+use Rattle.exact.proofs.Ground.{_∙_, needs}
 use Rattle.exact.proofs.Bits.{of}
 use Rattle.rules.specs.Plan.{Plan, plan}
 use Rattle.bench.specs.Exports.{ratioNumber}
 use Rattle.bench.proofs.Answers.{ratio-number, thousandths-small}
-use borrow.Author.Needs.{needs}
 use Rattle.bench.proofs.bench_ratio.Statement.{statement}
 use Rattle.bench.proofs.bench_ratio.Tie as tie
-
-generalized-requires : tie.Need-generalized-requires
-generalized-requires c κs = search needs
 
 abbrev given : tie.After-generalized → Plan
 given k = plan (k .before .before .before .args .levels .now) (k .before .before .before .args .table .now)
@@ -29,4 +25,4 @@ returns c =
 
 pub bench-ratio-spec : {M : Type 1} → statement M
 bench-ratio-spec =
-    tie.close (tie.spec generalized-requires of-u64-requires number-or-requires returns)
+    tie.close (tie.spec (λ c κs. search needs) of-u64-requires number-or-requires returns)

@@ -1,15 +1,11 @@
 -- `bench::bench_set_word` meets its contract, whichever engine is named.
-use mathlib.Core.Path.{_∙_}
+use Rattle.exact.proofs.Ground.{_∙_, needs}
 use Rattle.exact.proofs.Bits.{of}
 use Rattle.rules.specs.Plan.{plan}
 use Rattle.bench.specs.Exports.{setWordNumber}
 use Rattle.bench.proofs.Answers.{set-number}
-use borrow.Author.Needs.{needs}
 use Rattle.bench.proofs.bench_set_word.Statement.{statement}
 use Rattle.bench.proofs.bench_set_word.Tie as tie
-
-set-word-by-requires : tie.Need-set-word-by-requires
-set-word-by-requires c κs = search needs
 
 number-or-requires : tie.Need-number-or-requires
 number-or-requires c κs =
@@ -25,4 +21,4 @@ returns c =
     ∙ rw (of (k .set-word-by .result .word) (c .before .struct-told .given .1 .0 .1), k .set-word-by .ensures)
 
 pub bench-set-word-spec : {M : Type 1} → statement M
-bench-set-word-spec = tie.close (tie.spec set-word-by-requires number-or-requires returns)
+bench-set-word-spec = tie.close (tie.spec (λ c κs. search needs) number-or-requires returns)

@@ -1,29 +1,16 @@
 -- `bench::bench_set_words` meets its contract: the refusal's number negated, or the words of all sets added up.
-use mathlib.Core.Path.{_≡_, sym, _∙_, ap}
-use mathlib.Core.List.{[], _∷_}
-use Prim.Native.Nat.{ℕ}
-use lib.IntN.{ℤ, pos, negℤ}
+use Rattle.exact.proofs.Ground.{[], _∷_, _≡_, _∙_, sym, ap, ℕ, pos, ℤ, negℤ, needs}
 use Rattle.exact.proofs.Bits.{of}
 use Rattle.rules.specs.Plan.{Plan, plan, columns, level, entry, everyRun, everyColumn}
 use Rattle.rules.specs.Refusals.{refusal, orElse, ofPlan, badSize}
 use Rattle.rules.proofs.Ranges.{unless-refused, unless-accepted, or-neither}
 use Rattle.plan.proofs.CheckedRuns.{checked-fits, checked-long, checked-every, checked-sound, handed-refusal}
 use Rattle.words.specs.Words.{word}
-use Rattle.projections.proofs.Answers.{size-given}
+use Rattle.set_words.proofs.Answers.{size-given}
 use Rattle.bench.specs.Exports.{setWordsNumber}
 use Rattle.bench.proofs.Answers.{size-number}
-use borrow.Author.Needs.{needs}
 use Rattle.bench.proofs.bench_set_words.Statement.{statement}
 use Rattle.bench.proofs.bench_set_words.Tie as tie
-
-checked-runs-requires : tie.Need-checked-runs-requires
-checked-runs-requires c κs = search needs
-
-check-size-requires : tie.Need-check-size-requires
-check-size-requires c κs = search needs
-
-or-else-requires : tie.Need-or-else-requires
-or-else-requires c κs = search needs
 
 module _ (k : tie.After-checked-runs) where
   abbrev given : Plan
@@ -96,9 +83,9 @@ pub bench-set-words-spec : {M : Type 1} → statement M
 bench-set-words-spec =
     tie.close
     (tie.spec
-    checked-runs-requires
-    check-size-requires
-    or-else-requires
+    (λ c κs. search needs)
+    (λ c κs. search needs)
+    (λ c κs. search needs)
     number-or-requires
     returns
     array-share-prefix-runs

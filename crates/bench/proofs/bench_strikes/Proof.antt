@@ -1,17 +1,13 @@
 -- `bench::bench_strikes` meets its contract: the calls are those of the definition, one after the other.
-use mathlib.Core.Path.{_∙_}
+use Rattle.exact.proofs.Ground.{_∙_, needs}
 use Rattle.exact.proofs.Bits.{of}
 use Rattle.rules.specs.Plan.{Plan, plan}
 use Rattle.held.proofs.Opened.{open-held}
 use Rattle.held.proofs.History.{call-held}
 use Rattle.bench.specs.Exports.{strikesNumber}
 use Rattle.bench.proofs.Answers.{rounds-held, open-number, word-number}
-use borrow.Author.Needs.{needs}
 use Rattle.bench.proofs.bench_strikes.Statement.{statement}
 use Rattle.bench.proofs.bench_strikes.Tie as tie
-
-open-requires : tie.Need-open-requires
-open-requires c κs = search needs
 
 abbrev given : tie.After-open → Plan
 given k = plan (k .before .before .before .args .levels .now) (k .before .before .before .args .table .now)
@@ -64,7 +60,7 @@ pub bench-strikes-spec : {M : Type 1} → statement M
 bench-strikes-spec =
     tie.close
     (tie.spec
-    open-requires
+    (λ c κs. search needs)
     rounds-requires
     strike-requires
     word-requires

@@ -1,14 +1,10 @@
 -- `bench::rounds` meets its contract: each turn of the loop is a round.
-use mathlib.Core.Path.{_≡_, refl, _∙_, ap}
-use Prim.Native.Nat.{_≤_, _-_}
-use native.Mathlib.Numerals.{add-one}
-use native.Mathlib.Omega.{arith}
+use Rattle.exact.proofs.Ground.{_≡_, _∙_, ap, refl, _≤_, _-_, add-one, arith, needs}
 use Rattle.held.specs.declared.HeldAnswer.{HeldAnswer}
 use Rattle.held.specs.Held.{strikes, reinstates, callAnswer}
 use Rattle.held.proofs.History.{call-held}
 use Rattle.bench.specs.Exports.{round, rounds}
 use Rattle.bench.proofs.Answers.{rounds-held}
-use borrow.Author.Needs.{needs}
 use Rattle.bench.proofs.rounds.Statement.{statement}
 use Rattle.bench.proofs.rounds.Tie as tie
 
@@ -28,12 +24,6 @@ reinstate-requires : tie.Need-reinstate-requires Inv-loop μ-loop
 reinstate-requires c κs =
     let a = c .before .before .before in
     rw (c .before .strike .ensures, a .loop .inv .1) (call-held (rounds-held (a .before .pre) (a .loop .counter)) (strikes 0))
-
-add-counter : tie.Need-add-counter Inv-loop μ-loop
-add-counter c = search needs
-
-loop-less : tie.Need-loop-less Inv-loop μ-loop
-loop-less c = search needs
 
 loop-again : tie.Need-loop-again Inv-loop μ-loop
 loop-again c =
@@ -62,7 +52,7 @@ rounds-spec =
     loop-holds
     strike-requires
     reinstate-requires
-    add-counter
-    loop-less
+    (λ c. search needs)
+    (λ c. search needs)
     loop-again
     returns)

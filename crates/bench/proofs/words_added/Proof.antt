@@ -1,12 +1,5 @@
 -- `bench::words_added` meets its contract: the total is that of the sets before place k.
-use mathlib.Core.Path.{_≡_, refl, sym, _∙_, ap, ap₂}
-use mathlib.Core.List.{List, []}
-use Prim.Native.Nat.{ℕ, _+_, _-_, _≤_, _<_}
-use native.Mathlib.Omega.{arith}
-use lib.ListN.{length, take}
-use lib.IntN.{_+ℤ_}
-use mir.Syntax.{w64}
-use mir.Val.{toZ, ofZ}
+use Rattle.exact.proofs.Ground.{List, [], _≡_, _∙_, sym, ap, refl, ap₂, ℕ, _≤_, _<_, _-_, _+_, arith, _+ℤ_, length, take, w64, toZ, ofZ}
 use Rattle.exact.specs.Lists.{from, sum}
 use Rattle.exact.proofs.Bits.{of}
 use Rattle.rules.specs.Plan.{Plan, plan, columns, level, entry}
@@ -15,7 +8,7 @@ use Rattle.sets.proofs.Places.{set-front, set-held, set-at-set}
 use Rattle.words.specs.Words.{wordOf}
 use Rattle.parts.specs.Parts.{counted}
 use Rattle.parts.proofs.Squared.{counted-none}
-use Rattle.frequencies.proofs.Walks.{few-sets}
+use Rattle.projection_tables.proofs.Walks.{few-sets}
 use Rattle.bench.proofs.Added.{place-projection, place-few, added-next, added-small, added-all}
 use Rattle.bench.proofs.words_added.Statement.{statement}
 use Rattle.bench.proofs.words_added.Tie as tie

@@ -1,9 +1,8 @@
 -- `compare::compare` meets its contract: the routine is handed each plan's refusal, words and numbers of runs and columns.
-use mathlib.Core.Path.{sym, _∙_}
+use Rattle.exact.proofs.Ground.{_∙_, sym, needs}
 use Rattle.rules.specs.Plan.{Plan, plan, everyRun}
 use Rattle.rules.specs.Refusals.{ofPlan}
 use Rattle.compare.proofs.Sides.{side-sided, sides-compared, whole-refusal, whole-side}
-use borrow.Author.Needs.{needs}
 use Rattle.compare.proofs.compare.Statement.{statement}
 use Rattle.compare.proofs.compare.Tie as tie
 
@@ -14,12 +13,6 @@ module _ (k : tie.After-side-of) where
 
   abbrev plan-2 : Plan
   plan-2 = let s = k .before .before .before .before .before .args in plan (s .levels2 .now) (s .table2 .now)
-
-side-of-requires : tie.Need-side-of-requires
-side-of-requires c κs = search needs
-
-side-of-requires-2 : tie.Need-side-of-requires-2
-side-of-requires-2 c κs = search needs
 
 compare-answer-requires : tie.Need-compare-answer-requires
 compare-answer-requires c κs =
@@ -44,4 +37,4 @@ returns c =
 
 pub compare-spec : {M : Type 1} → statement M
 compare-spec =
-    tie.close (tie.spec side-of-requires side-of-requires-2 compare-answer-requires returns)
+    tie.close (tie.spec (λ c κs. search needs) (λ c κs. search needs) compare-answer-requires returns)

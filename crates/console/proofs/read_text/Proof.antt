@@ -23,15 +23,6 @@ abbrev μ-loop : tie.MeasureT-loop
 loop-holds : tie.Need-loop-holds Inv-loop μ-loop
 loop-holds c = (refl, omega arith)
 
-sub-read-once : tie.Need-sub-read-once Inv-loop μ-loop
-sub-read-once c = omega arith
-
-part-read-once-start : tie.Need-part-read-once-start Inv-loop μ-loop
-part-read-once-start c = omega arith
-
-part-read-once-end : tie.Need-part-read-once-end Inv-loop μ-loop
-part-read-once-end c = omega arith
-
 read-once-requires : tie.Need-read-once-requires Inv-loop μ-loop
 read-once-requires c κs = tt
 
@@ -72,9 +63,9 @@ read-text-spec =
     Inv-loop
     μ-loop
     loop-holds
-    sub-read-once
-    part-read-once-start
-    part-read-once-end
+    (λ c. omega arith)
+    (λ c. omega arith)
+    (λ c. omega arith)
     read-once-requires
     same-length
     returns

@@ -16,26 +16,14 @@ say-requires c κs = tt
 loop-holds : tie.Need-loop-holds Inv-loop μ-loop
 loop-holds c = tt
 
-shared-slice-read-wide : tie.Need-shared-slice-read-wide Inv-loop μ-loop
-shared-slice-read-wide c = omega arith
-
 wide-requires : tie.Need-wide-requires Inv-loop μ-loop
 wide-requires c κs = tt
 
 say-number-requires : tie.Need-say-number-requires Inv-loop μ-loop
 say-number-requires c κs = tt
 
-add-k : tie.Need-add-k Inv-loop μ-loop
-add-k c = omega arith
-
-loop-less : tie.Need-loop-less Inv-loop μ-loop
-loop-less c = omega arith
-
 loop-again : tie.Need-loop-again Inv-loop μ-loop
 loop-again c = tt
-
-slice-aggregate-say : tie.Need-slice-aggregate-say Inv-loop μ-loop
-slice-aggregate-say c = omega arith
 
 say-requires-2 : tie.Need-say-requires-2 Inv-loop μ-loop
 say-requires-2 c κs = tt
@@ -51,12 +39,12 @@ say-bytes-spec =
     μ-loop
     say-requires
     loop-holds
-    shared-slice-read-wide
+    (λ c. omega arith)
     wide-requires
     say-number-requires
-    add-k
-    loop-less
+    (λ c. omega arith)
+    (λ c. omega arith)
     loop-again
-    slice-aggregate-say
+    (λ c. omega arith)
     say-requires-2
     returns)

@@ -1,12 +1,10 @@
 -- `strength` meets its contract: the routine is handed the plan's refusal and all its runs.
-use mathlib.Core.Path.{_∙_}
-use Prim.Native.Nat.{ℕ}
+use Rattle.exact.proofs.Ground.{_∙_, ℕ, needs}
 use Rattle.rules.specs.declared.Refusal.{Refusal}
 use Rattle.rules.specs.Plan.{Plan, plan, level, entry, everyColumn}
 use Rattle.plan.proofs.CheckedRuns.{checked-fits, checked-long, checked-sound, checked-some, handed-plain}
 use Rattle.counts.specs.declared.StrengthAnswer.{StrengthAnswer}
 use Rattle.counts.specs.Counts.{strength, strengthAnswer}
-use borrow.Author.Needs.{needs}
 use Rattle.counts.proofs.strength.Statement.{statement}
 use Rattle.counts.proofs.strength.Tie as tie
 
@@ -15,9 +13,6 @@ make r t = record { refused = r; strength = t }
 
 abbrev given : tie.After-checked-runs → Plan
 given k = let a = k .before .before .before .args in plan (a .levels .now) (a .table .now)
-
-checked-runs-requires : tie.Need-checked-runs-requires
-checked-runs-requires c κs = search needs
 
 array-share-prefix-runs : tie.Need-array-share-prefix-runs
 array-share-prefix-runs c = let k = c .before in checked-fits (given k) (k .checked-runs .ensures)
@@ -41,7 +36,7 @@ pub strength-spec : {M : Type 1} → statement M
 strength-spec =
     tie.close
     (tie.spec
-    checked-runs-requires
+    (λ c κs. search needs)
     array-share-prefix-runs
     slice-aggregate-strength-answer
     strength-answer-requires

@@ -16,9 +16,6 @@ loop-holds c = tt
 level-occurs-requires : tie.Need-level-occurs-requires Inv-loop μ-loop
 level-occurs-requires c κs = tt
 
-slice-aggregate-line : tie.Need-slice-aggregate-line Inv-loop μ-loop
-slice-aggregate-line c = omega arith
-
 wide-requires : tie.Need-wide-requires Inv-loop μ-loop
 wide-requires c κs = tt
 
@@ -27,12 +24,6 @@ line-requires c κs = tt
 
 returns : tie.Need-returns Inv-loop μ-loop
 returns c = tt
-
-add-level : tie.Need-add-level Inv-loop μ-loop
-add-level c = omega arith
-
-loop-less : tie.Need-loop-less Inv-loop μ-loop
-loop-less c = omega arith
 
 loop-again : tie.Need-loop-again Inv-loop μ-loop
 loop-again c = tt
@@ -48,11 +39,11 @@ show-absent-spec =
     μ-loop
     loop-holds
     level-occurs-requires
-    slice-aggregate-line
+    (λ c. omega arith)
     wide-requires
     line-requires
     returns
-    add-level
-    loop-less
+    (λ c. omega arith)
+    (λ c. omega arith)
     loop-again
     returns-2)

@@ -13,20 +13,11 @@ abbrev μ-loop : tie.MeasureT-loop
 loop-holds : tie.Need-loop-holds Inv-loop μ-loop
 loop-holds c = tt
 
-shared-slice-read-show-absent : tie.Need-shared-slice-read-show-absent Inv-loop μ-loop
-shared-slice-read-show-absent c = omega arith
-
 show-absent-requires : tie.Need-show-absent-requires Inv-loop μ-loop
 show-absent-requires c κs = tt
 
 returns : tie.Need-returns Inv-loop μ-loop
 returns c = tt
-
-add-column : tie.Need-add-column Inv-loop μ-loop
-add-column c = omega arith
-
-loop-less : tie.Need-loop-less Inv-loop μ-loop
-loop-less c = omega arith
 
 loop-again : tie.Need-loop-again Inv-loop μ-loop
 loop-again c = tt
@@ -41,10 +32,10 @@ show-columns-spec =
     Inv-loop
     μ-loop
     loop-holds
-    shared-slice-read-show-absent
+    (λ c. omega arith)
     show-absent-requires
     returns
-    add-column
-    loop-less
+    (λ c. omega arith)
+    (λ c. omega arith)
     loop-again
     returns-2)

@@ -16,20 +16,11 @@ loop-holds c = tt
 first-alike-requires : tie.Need-first-alike-requires Inv-loop μ-loop
 first-alike-requires c κs = tt
 
-slice-aggregate-line : tie.Need-slice-aggregate-line Inv-loop μ-loop
-slice-aggregate-line c = omega arith
-
 line-requires : tie.Need-line-requires Inv-loop μ-loop
 line-requires c κs = tt
 
 returns : tie.Need-returns Inv-loop μ-loop
 returns c = tt
-
-add-run : tie.Need-add-run Inv-loop μ-loop
-add-run c = omega arith
-
-loop-less : tie.Need-loop-less Inv-loop μ-loop
-loop-less c = omega arith
 
 loop-again : tie.Need-loop-again Inv-loop μ-loop
 loop-again c = tt
@@ -45,10 +36,10 @@ show-repeated-spec =
     μ-loop
     loop-holds
     first-alike-requires
-    slice-aggregate-line
+    (λ c. omega arith)
     line-requires
     returns
-    add-run
-    loop-less
+    (λ c. omega arith)
+    (λ c. omega arith)
     loop-again
     returns-2)

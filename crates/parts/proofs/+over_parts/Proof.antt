@@ -1,13 +1,6 @@
 -- `parts::over_parts` meets its contract. It calls itself with one column less: that is its measure.
-use mathlib.Core.Path.{_≡_, refl, sym, _∙_, ap, ap₂}
-use mathlib.Core.List.{List, map}
-use Prim.Native.Nat.{ℕ, _-_, _≤_, _<_}
-use native.Mathlib.Omega.{arith}
-use lib.ListN.{length, getD, take, drop, length-drop}
-use lib.Seq.{length-take-le}
-use lib.IntN.{ℤ, pos, negℤ, _+ℤ_, _-ℤ_, _*ℤ_, +ℤ-idl}
-use mir.Syntax.{w64}
-use mir.Val.{toZ, ofZ}
+use Rattle.exact.proofs.Ground.{List, map, _≡_, _∙_, sym, ap, refl, ap₂, ℕ, _≤_, _<_, _-_, arith, pos, ℤ, _*ℤ_, _+ℤ_, _-ℤ_, negℤ, +ℤ-idl, length}
+use Rattle.exact.proofs.Ground.{getD, take, drop, length-drop, length-take-le, w64, toZ, ofZ}
 use borrow.Fn.Kinds.{In}
 use borrow.Fn.PlainCycle.{Measures, is, falls, and}
 use Rattle.exact.proofs.Order.{natAbs--}

@@ -1,8 +1,5 @@
 -- `parts::clear` meets its contract: the counters are those of the numbers from k on.
-use mathlib.Core.Path.{_≡_, refl, _∙_, ap}
-use Prim.Native.Nat.{_-_, _≤_, _<_}
-use native.Mathlib.Omega.{arith}
-use lib.ListN.{length, getD, drop, drop-of-length-le}
+use Rattle.exact.proofs.Ground.{_≡_, _∙_, ap, refl, _≤_, _<_, _-_, arith, drop-of-length-le, length, getD, drop}
 use Rattle.counts.specs.Numbered.{mostNumbers}
 use Rattle.parts.specs.Parts.{counted}
 use Rattle.parts.proofs.Squared.{uncounted-turn, counter-some}
@@ -17,12 +14,6 @@ abbrev μ-loop : tie.MeasureT-loop
 
 loop-holds : tie.Need-loop-holds Inv-loop μ-loop
 loop-holds c = (omega arith, refl, c .pre)
-
-mul-number : tie.Need-mul-number Inv-loop μ-loop
-mul-number c = omega arith
-
-shared-slice-read-number : tie.Need-shared-slice-read-number Inv-loop μ-loop
-shared-slice-read-number c = omega arith
 
 -- 16 bits
 small : (c : tie.After-shared-slice-known Inv-loop μ-loop) → getD (c .before .before .before .args .numbers .now) (c .before .before .loop .k) 0 < mostNumbers
@@ -53,12 +44,6 @@ sub-counters c =
 element-write-counters : tie.Need-element-write-counters Inv-loop μ-loop
 element-write-counters c = small (c .before)
 
-add-k : tie.Need-add-k Inv-loop μ-loop
-add-k c = omega arith
-
-loop-less : tie.Need-loop-less Inv-loop μ-loop
-loop-less c = omega arith
-
 returns : tie.Need-returns Inv-loop μ-loop
 returns c =
     let l = c .before in l .loop .inv .2 ∙ ap counted (drop-of-length-le (l .before .args .numbers .now) (let q : length (l .before .args .numbers .now) ≤ l .loop .k = omega arith in q))
@@ -70,14 +55,14 @@ clear-spec =
     Inv-loop
     μ-loop
     loop-holds
-    mul-number
-    shared-slice-read-number
+    (λ c. omega arith)
+    (λ c. omega arith)
     cast-number
     mul-counters
     element-copy-out-counters
     sub-counters
     element-write-counters
-    add-k
-    loop-less
+    (λ c. omega arith)
+    (λ c. omega arith)
     loop-again
     returns)

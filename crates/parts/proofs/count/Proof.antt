@@ -1,11 +1,5 @@
 -- `parts::count` meets its contract: from the last number down, the counters and the squares are those of the numbers from k on.
-use mathlib.Core.Path.{_≡_, sym, _∙_, ap}
-use mathlib.Core.List.{List}
-use Prim.Native.Nat.{ℕ, _-_, _≤_, _<_}
-use native.Mathlib.Omega.{arith}
-use lib.ListN.{length, getD, drop, length-drop}
-use lib.Seq.{drop-length}
-use lib.IntN.{pos}
+use Rattle.exact.proofs.Ground.{List, _≡_, _∙_, sym, ap, ℕ, _≤_, _<_, _-_, arith, pos, length, getD, drop, length-drop, drop-length}
 use Rattle.rules.specs.Plan.{mostRuns}
 use Rattle.counts.specs.Numbered.{mostNumbers}
 use Rattle.parts.specs.Parts.{counted, squaresOf}
@@ -24,15 +18,6 @@ loop-holds : tie.Need-loop-holds Inv-loop μ-loop
 loop-holds c =
     let xs = c .args .numbers .now in
     (omega arith, c .pre .1 ∙ ap counted (sym (drop-length xs)), sym squares-none ∙ ap squaresOf (sym (drop-length xs)))
-
-sub-k : tie.Need-sub-k Inv-loop μ-loop
-sub-k c = omega arith
-
-mul-number : tie.Need-mul-number Inv-loop μ-loop
-mul-number c = omega arith
-
-shared-slice-read-number : tie.Need-shared-slice-read-number Inv-loop μ-loop
-shared-slice-read-number c = omega arith
 
 module _ (c : tie.After-shared-slice-known Inv-loop μ-loop) where
   abbrev xs : List ℕ
@@ -88,9 +73,6 @@ mul-counters c = omega (arith, small (c .before))
 element-write-counters : tie.Need-element-write-counters Inv-loop μ-loop
 element-write-counters c = small (c .before)
 
-loop-less : tie.Need-loop-less Inv-loop μ-loop
-loop-less c = omega arith
-
 loop-again : tie.Need-loop-again Inv-loop μ-loop
 loop-again c =
     let l = c .before .before .before in
@@ -110,9 +92,9 @@ count-spec =
     Inv-loop
     μ-loop
     loop-holds
-    sub-k
-    mul-number
-    shared-slice-read-number
+    (λ c. omega arith)
+    (λ c. omega arith)
+    (λ c. omega arith)
     cast-number
     mul-before
     element-copy-out-before
@@ -123,6 +105,6 @@ count-spec =
     add-counters
     mul-counters
     element-write-counters
-    loop-less
+    (λ c. omega arith)
     loop-again
     returns)

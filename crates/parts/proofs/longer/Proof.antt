@@ -1,9 +1,5 @@
 -- `parts::longer` meets its contract: the first k numbers of the room have their digit.
-use mathlib.Core.Path.{_≡_, refl, sym, _∙_, ap}
-use mathlib.Core.List.{_++_}
-use Prim.Native.Nat.{_+_, _*_, _-_, _≤_}
-use native.Mathlib.Omega.{arith}
-use lib.ListN.{length, getD, drop, replicate}
+use Rattle.exact.proofs.Ground.{_++_, _≡_, _∙_, sym, ap, refl, _≤_, _-_, _+_, _*_, arith, length, getD, drop, replicate}
 use Rattle.exact.proofs.Rooms.{begun, write-next, into-blank, length-numbered}
 use Rattle.parts.specs.Parts.{longer}
 use Rattle.parts.proofs.longer.Statement.{statement}
@@ -18,12 +14,6 @@ abbrev μ-loop : tie.MeasureT-loop
 
 loop-holds : tie.Need-loop-holds Inv-loop μ-loop
 loop-holds c = (omega arith, refl, refl)
-
-mul-room : tie.Need-mul-room Inv-loop μ-loop
-mul-room c = omega arith
-
-shared-slice-read-room : tie.Need-shared-slice-read-room Inv-loop μ-loop
-shared-slice-read-room c = omega arith
 
 loop-again : tie.Need-loop-again Inv-loop μ-loop
 loop-again c =
@@ -47,17 +37,8 @@ cast-room c = let l = c .before .before .before in omega (arith, l .before .pre 
 add-room : tie.Need-add-room Inv-loop μ-loop
 add-room c = let l = c .before .before .before in omega (arith, l .before .pre .1 (l .loop .k) (omega arith))
 
-mul-room-3 : tie.Need-mul-room-3 Inv-loop μ-loop
-mul-room-3 c = omega arith
-
 array-write-room : tie.Need-array-write-room Inv-loop μ-loop
 array-write-room c = omega (arith, c .before .before .before .before .pre .0 .0)
-
-add-k : tie.Need-add-k Inv-loop μ-loop
-add-k c = omega arith
-
-loop-less : tie.Need-loop-less Inv-loop μ-loop
-loop-less c = omega arith
 
 returns : tie.Need-returns Inv-loop μ-loop
 returns c =
@@ -76,15 +57,15 @@ longer-spec =
     Inv-loop
     μ-loop
     loop-holds
-    mul-room
-    shared-slice-read-room
+    (λ c. omega arith)
+    (λ c. omega arith)
     mul-room-2
     shared-slice-read-room-2
     cast-room
     add-room
-    mul-room-3
+    (λ c. omega arith)
     array-write-room
-    add-k
-    loop-less
+    (λ c. omega arith)
+    (λ c. omega arith)
     loop-again
     returns)

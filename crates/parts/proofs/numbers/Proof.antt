@@ -1,9 +1,5 @@
 -- `parts::numbers` meets its contract: the first k runs have their numbers in the room.
-use mathlib.Core.Path.{_≡_, refl, sym, _∙_}
-use mathlib.Core.List.{List, [], _∷_, map, List·Memᴰ·head}
-use Prim.Native.Nat.{ℕ, _-_, _≤_, _<_}
-use native.Mathlib.Omega.{arith}
-use lib.ListN.{length, getD, replicate, length-map}
+use Rattle.exact.proofs.Ground.{List, [], _∷_, map, List·Memᴰ·head, _≡_, _∙_, sym, refl, ℕ, _≤_, _<_, _-_, arith, length, getD, replicate, length-map}
 use Rattle.exact.proofs.Lists.{getD-map}
 use Rattle.exact.proofs.Members.{getD-mem}
 use Rattle.exact.proofs.Rooms.{copied, copy-next, copy-all, into-blank}
@@ -28,12 +24,6 @@ abbrev μ-loop : tie.MeasureT-loop
 
 loop-holds : tie.Need-loop-holds Inv-loop μ-loop
 loop-holds c = (omega arith, refl, refl)
-
-mul-combination : tie.Need-mul-combination Inv-loop μ-loop
-mul-combination c = omega arith
-
-shared-slice-read-combination : tie.Need-shared-slice-read-combination Inv-loop μ-loop
-shared-slice-read-combination c = omega arith
 
 abbrev start : tie.At-loop Inv-loop μ-loop → tie.Start Inv-loop μ-loop
 start l = l .before .before .before .before .before
@@ -61,7 +51,7 @@ module _ (l : tie.At-loop Inv-loop μ-loop) (h : l .loop .k < length (start l .a
       )
 
 combination-requires : tie.Need-combination-requires Inv-loop μ-loop
-combination-requires c κs = let l = c .before .before in (sound l (omega arith), start l .pre .1)
+combination-requires c κs = let l = c .before .before in (sound l (omega arith), (start l .pre .1 .0, omega (arith, start l .pre .1 .1)))
 
 cast-room : tie.Need-cast-room Inv-loop μ-loop
 cast-room c = omega (arith, c .combination .ensures, small (c .before .before .before) (omega arith))
@@ -78,17 +68,8 @@ loop-again c =
           (copy-next xs (replicate 256 0) (l .loop .k) 0 (rw (length-map (a .runs .now) (λ f. numberOf (level p) (entry p) f (a .columns .now))) (omega arith)) (omega (arith, start l .pre .0 .few))),
     )
 
-mul-room : tie.Need-mul-room Inv-loop μ-loop
-mul-room c = omega arith
-
 array-write-room : tie.Need-array-write-room Inv-loop μ-loop
 array-write-room c = omega (arith, start (c .before .before .before) .pre .0 .few)
-
-add-k : tie.Need-add-k Inv-loop μ-loop
-add-k c = omega arith
-
-loop-less : tie.Need-loop-less Inv-loop μ-loop
-loop-less c = omega arith
 
 returns : tie.Need-returns Inv-loop μ-loop
 returns c =
@@ -107,13 +88,13 @@ numbers-spec =
     Inv-loop
     μ-loop
     loop-holds
-    mul-combination
-    shared-slice-read-combination
+    (λ c. omega arith)
+    (λ c. omega arith)
     combination-requires
     cast-room
-    mul-room
+    (λ c. omega arith)
     array-write-room
-    add-k
-    loop-less
+    (λ c. omega arith)
+    (λ c. omega arith)
     loop-again
     returns)

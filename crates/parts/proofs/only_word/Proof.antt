@@ -1,14 +1,6 @@
 -- `parts::only_word` meets its contract: the product of the levels, times the squares of the runs' numbers, less the pairs of runs.
-use mathlib.Core.Path.{_≡_, sym, _∙_, ap, ap₂}
-use mathlib.Core.List.{List}
-use Prim.Native.Nat.{ℕ, _*_, _≤_}
-use native.Mathlib.Omega.{arith}
-use lib.IntN.{ℤ, pos, natAbs, _-ℤ_, _*ℤ_}
-use lib.ListN.{length, take}
-use lib.Seq.{length-take-le}
-use mir.Syntax.{w64}
-use mir.Val.{toZ, ofZ}
-use borrow.Author.Needs.{needs}
+use Rattle.exact.proofs.Ground.{List, _≡_, _∙_, sym, ap, ap₂, ℕ, _≤_, _*_, arith, pos, ℤ, natAbs, _*ℤ_, _-ℤ_, length, take, length-take-le, needs}
+use Rattle.exact.proofs.Ground.{w64, toZ, ofZ}
 use Rattle.exact.proofs.Bits.{of}
 use Rattle.exact.proofs.Numbers.{mul-below}
 use Rattle.exact.proofs.Order.{natAbs-*-≤, natAbs--}
@@ -35,16 +27,10 @@ module _ (s : tie.Start) where
   few-pairs : length rs * length rs ≤ mostRuns * mostRuns
   few-pairs = mul-below (length rs) (length rs) mostRuns mostRuns (s .pre .0 .few) (s .pre .0 .few)
 
-product-of-requires : tie.Need-product-of-requires
-product-of-requires c κs = search needs
-
 numbers-requires : tie.Need-numbers-requires
 numbers-requires c κs =
     let s = c .before .before .before .before .before in
     (s .pre .0, (s .pre .1 .0, few-combinations (given s) (rs s) (I s) (s .pre .0) (s .pre .1 .0) (s .pre .1 .1 .0)))
-
-array-share-prefix-numbers : tie.Need-array-share-prefix-numbers
-array-share-prefix-numbers c = search needs
 
 -- the numbers lent are those of the runs
 lent : (c : tie.After-numbers) →
@@ -89,9 +75,6 @@ module _ (c : tie.After-squares) where
       (squares-found (given start) (rs start) (I start) (start .pre .0) (start .pre .1 .0) (start .pre .1 .1 .0) product (c .squares .result)
       (c .before .before .before .before .product-of .ensures) counted)
 
-of-size-requires : tie.Need-of-size-requires
-of-size-requires c κs = search needs
-
 -- they are read back from their bits
 factors : (c : tie.After-of-size) →
     toZ w64 (ofZ w64 (c .of-size .result)) *ℤ toZ w64 (ofZ w64 (c .before .squares .result)) ≡ pos (product (c .before)) *ℤ c .before .squares .result
@@ -135,12 +118,12 @@ pub only-word-spec : {M : Type 1} → statement M
 only-word-spec =
     tie.close
     (tie.spec
-    product-of-requires
+    (λ c κs. search needs)
     numbers-requires
-    array-share-prefix-numbers
+    (λ c. search needs)
     slice-aggregate-squares
     squares-requires
-    of-size-requires
+    (λ c κs. search needs)
     mul-requires
     mul-of-size
     of-size-requires-2

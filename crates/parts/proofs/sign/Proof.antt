@@ -1,8 +1,5 @@
 -- `parts::sign` meets its contract, for each number of columns.
-use mathlib.Core.Path.{_≡_, refl}
-use Prim.Native.Nat.{ℕ, zero, suc, _≤_, _%_}
-use native.Mathlib.Omega.{arith}
-use lib.IntN.{pos, negsuc}
+use Rattle.exact.proofs.Ground.{_≡_, refl, ℕ, _≤_, suc, zero, _%_, arith, pos, negsuc}
 use Rattle.parts.specs.Parts.{sign}
 use Rattle.parts.proofs.sign.Statement.{statement}
 use Rattle.parts.proofs.sign.Tie as tie

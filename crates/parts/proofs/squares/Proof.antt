@@ -1,17 +1,9 @@
 -- `parts::squares` meets its contract: counted, cleared, and read as a signed number.
-use borrow.Author.Needs.{needs}
-use mathlib.Core.Path.{_∙_}
-use native.Mathlib.Omega.{arith}
+use Rattle.exact.proofs.Ground.{_∙_, arith, needs}
 use Rattle.exact.proofs.Bits.{of}
 use Rattle.parts.proofs.Squared.{squares-small}
 use Rattle.parts.proofs.squares.Statement.{statement}
 use Rattle.parts.proofs.squares.Tie as tie
-
-count-requires : tie.Need-count-requires
-count-requires c κs = search needs
-
-clear-requires : tie.Need-clear-requires
-clear-requires c κs = search needs
 
 of-u64-requires : tie.Need-of-u64-requires
 of-u64-requires c κs =
@@ -24,4 +16,4 @@ returns c =
     (of (c .of-u64 .result) (c .of-u64 .ok) ∙ c .of-u64 .ensures ∙ f .count .ensures .0, c .before .clear .ensures)
 
 pub squares-spec : {M : Type 1} → statement M
-squares-spec = tie.close (tie.spec count-requires clear-requires of-u64-requires returns)
+squares-spec = tie.close (tie.spec (λ c κs. search needs) (λ c κs. search needs) of-u64-requires returns)

@@ -1,9 +1,5 @@
 -- `parts::turn_column` meets its contract: the entries of the first k runs are in the room.
-use mathlib.Core.Path.{_≡_, refl}
-use mathlib.Core.List.{map, List·Memᴰ}
-use Prim.Native.Nat.{ℕ, _+_, _*_, _-_, _≤_, _<_}
-use native.Mathlib.Omega.{arith}
-use lib.ListN.{length, getD, length-set}
+use Rattle.exact.proofs.Ground.{map, List·Memᴰ, _≡_, refl, ℕ, _≤_, _<_, _-_, _+_, _*_, arith, length, getD, length-set}
 use lib.Seq.{paste, paste-zero}
 use Rattle.exact.proofs.Numbers.{mul-below}
 use Rattle.exact.proofs.Members.{getD-mem}
@@ -23,12 +19,6 @@ loop-holds : tie.Need-loop-holds Inv-loop μ-loop
 loop-holds c =
     let a = c .args in
     (omega arith, refl, refl, paste-zero (a .room .now) (a .at) (map (λ f. entry (plan (a .levels .now) (a .table .now)) f (a .column)) (a .runs .now)))
-
-mul-start : tie.Need-mul-start Inv-loop μ-loop
-mul-start c = omega arith
-
-shared-slice-read-start : tie.Need-shared-slice-read-start Inv-loop μ-loop
-shared-slice-read-start c = omega arith
 
 -- the run of a turn
 module _ (l : tie.At-loop Inv-loop μ-loop) (h : l .loop .k < length (l .before .args .runs .now)) where
@@ -64,12 +54,6 @@ add-room-2 c = omega (arith, c .before .before .before .before .pre .1 .1)
 slice-write-room : tie.Need-slice-write-room Inv-loop μ-loop
 slice-write-room c = omega (arith, c .before .before .before .before .pre .1 .1, c .before .before .before .loop .inv .2)
 
-add-k : tie.Need-add-k Inv-loop μ-loop
-add-k c = omega arith
-
-loop-less : tie.Need-loop-less Inv-loop μ-loop
-loop-less c = omega arith
-
 loop-again : tie.Need-loop-again Inv-loop μ-loop
 loop-again c =
     let l = c .before .before .before in
@@ -95,15 +79,15 @@ turn-column-spec =
     Inv-loop
     μ-loop
     loop-holds
-    mul-start
-    shared-slice-read-start
+    (λ c. omega arith)
+    (λ c. omega arith)
     mul-start-2
     add-room
     shared-slice-read-room
     add-room-2
     slice-write-room
-    add-k
-    loop-less
+    (λ c. omega arith)
+    (λ c. omega arith)
     loop-again
     same-length
     returns)

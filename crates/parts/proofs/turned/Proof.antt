@@ -1,10 +1,5 @@
 -- `parts::turned` meets its contract: the first t columns are in the room.
-use mathlib.Core.Path.{_≡_, refl, sym, _∙_, ap}
-use Prim.Native.Nat.{ℕ, _+_, _*_, _-_, _≤_, _<_}
-use native.Mathlib.Nat.{le-trans}
-use native.Mathlib.Omega.{arith}
-use lib.ListN.{length, getD, take}
-use lib.Seq.{take-all}
+use Rattle.exact.proofs.Ground.{_≡_, _∙_, sym, ap, refl, ℕ, _≤_, _<_, _-_, _+_, _*_, le-trans, arith, length, getD, take, take-all}
 use Rattle.exact.specs.Lists.{filledTo}
 use Rattle.exact.proofs.Numbers.{mul-below, row-within}
 use Rattle.exact.proofs.Members.{getD-mem}
@@ -23,12 +18,6 @@ abbrev μ-loop : tie.MeasureT-loop
 
 loop-holds : tie.Need-loop-holds Inv-loop μ-loop
 loop-holds c = (omega arith, refl, refl, refl)
-
-mul-turn-column : tie.Need-mul-turn-column Inv-loop μ-loop
-mul-turn-column c = omega arith
-
-shared-slice-read-turn-column : tie.Need-shared-slice-read-turn-column Inv-loop μ-loop
-shared-slice-read-turn-column c = omega arith
 
 -- the room is long enough for 4 columns of 256 runs
 module _ (s : tie.Start Inv-loop μ-loop) where
@@ -51,12 +40,6 @@ turn-column-requires c κs =
     let s = l .before .before .before .before .before in
     let J = s .args .columns .now in
     (s .pre .0, (s .pre .1 .0 .inside (getD J (l .loop .t) 0) (getD-mem J (l .loop .t) 0 (omega arith)), rw (l .loop .inv .2) (row s (l .loop .t) (omega arith))))
-
-add-t : tie.Need-add-t Inv-loop μ-loop
-add-t c = omega arith
-
-loop-less : tie.Need-loop-less Inv-loop μ-loop
-loop-less c = omega arith
 
 loop-again : tie.Need-loop-again Inv-loop μ-loop
 loop-again c =
@@ -85,12 +68,12 @@ turned-spec =
     Inv-loop
     μ-loop
     loop-holds
-    mul-turn-column
-    shared-slice-read-turn-column
+    (λ c. omega arith)
+    (λ c. omega arith)
     mul-turn-column-2
     slice-aggregate-turn-column
     turn-column-requires
-    add-t
-    loop-less
+    (λ c. omega arith)
+    (λ c. omega arith)
     loop-again
     returns)

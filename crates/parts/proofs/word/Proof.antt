@@ -1,12 +1,5 @@
 -- `parts::word` meets its contract: before the first column every run has the number 0, and the weight is the empty part's sign.
-use mathlib.Core.Path.{_≡_, refl, sym, _∙_}
-use mathlib.Core.List.{List}
-use Prim.Native.Nat.{ℕ}
-use lib.ListN.{length, replicate}
-use lib.Seq.{length-take-le}
-use mir.Syntax.{w64}
-use mir.Val.{toZ, ofZ}
-use borrow.Author.Needs.{needs}
+use Rattle.exact.proofs.Ground.{List, _≡_, _∙_, sym, refl, ℕ, length, replicate, length-take-le, needs, w64, toZ, ofZ}
 use Rattle.exact.proofs.Bits.{of}
 use Rattle.rules.specs.Plan.{Plan, plan}
 use Rattle.parts.specs.Parts.{sign}
@@ -34,9 +27,6 @@ turned-requires c κs = let s = c .before .before .before .before in (s .pre .0,
 
 sign-requires : tie.Need-sign-requires
 sign-requires c κs = c .before .before .before .before .before .pre .1 .0 .1
-
-slice-aggregate-over-parts : tie.Need-slice-aggregate-over-parts
-slice-aggregate-over-parts c = search needs
 
 array-share-prefix-numbers : tie.Need-array-share-prefix-numbers
 array-share-prefix-numbers c = c .before .before .before .before .before .before .before .pre .0 .few
@@ -71,7 +61,7 @@ word-spec =
     (tie.spec
     turned-requires
     sign-requires
-    slice-aggregate-over-parts
+    (λ c. search needs)
     array-share-prefix-numbers
     slice-aggregate-over-parts-2
     over-parts-requires

@@ -1,17 +1,11 @@
 -- The levels' refusal stands ahead of the table's.
-use borrow.Author.Needs.{needs}
-use mathlib.Core.Path.{refl, sym, _∙_}
-use mathlib.Core.List.{[], List·Memᴰ·head}
-use lib.ListN.{length}
+use Rattle.exact.proofs.Ground.{[], List·Memᴰ·head, _∙_, sym, refl, length, needs}
 use Rattle.rules.specs.Plan.{plan}
 use Rattle.rules.specs.Refusals.{levelChecks, badColumns}
 use Rattle.rules.proofs.Order.{passed-none}
 use Rattle.plan.proofs.Checks.{columns-passed, levels-refused, levels-accepted}
 use Rattle.plan.proofs.check.Statement.{statement}
 use Rattle.plan.proofs.check.Tie as tie
-
-check-levels-requires : tie.Need-check-levels-requires
-check-levels-requires c κs = search needs
 
 returns : tie.Need-returns
 returns c =
@@ -34,4 +28,4 @@ returns-2 c =
     c .check-table .ensures ∙ sym (levels-accepted (a .levels .now) (a .table .now) (l .check-levels .ensures) (c .before .if1 .left))
 
 pub check-spec : {M : Type 1} → statement M
-check-spec = tie.close (tie.spec check-levels-requires returns check-table-requires returns-2)
+check-spec = tie.close (tie.spec (λ c κs. search needs) returns check-table-requires returns-2)

@@ -1,33 +1,16 @@
 -- Each return is the case of the definition that its tests lead to.
-use mathlib.Core.Path.{_≡_}
-use mathlib.Core.Bool.{false}
-use mathlib.Core.List.{[]}
-use native.Mathlib.Omega.{arith}
-use borrow.Author.Tests.{lt-ltb, le-ltb}
+use Rattle.exact.proofs.Ground.{false, [], _≡_, arith, needs, le-ltb, lt-ltb}
 use Rattle.rules.specs.Plan.{plan}
 use Rattle.rules.specs.Refusals.{badLevel}
 use Rattle.plan.proofs.Checks.{levels-passed}
-use borrow.Author.Needs.{needs}
 use Rattle.plan.proofs.check_levels.Statement.{statement}
 use Rattle.plan.proofs.check_levels.Tie as tie
-
-plain-requires : tie.Need-plain-requires
-plain-requires c κs = search needs
 
 returns : tie.Need-returns
 returns c = rw (c .plain .ensures, lt-ltb _ _ (c .before .if1 .taken))
 
-plain-requires-2 : tie.Need-plain-requires-2
-plain-requires-2 c κs = search needs
-
 returns-2 : tie.Need-returns-2
 returns-2 c = rw (c .plain2 .ensures, le-ltb _ _ (c .before .before .if1 .left), lt-ltb _ _ (c .before .if2 .taken))
-
-first-bad-level-requires : tie.Need-first-bad-level-requires
-first-bad-level-requires c κs = search needs
-
-placed-requires : tie.Need-placed-requires
-placed-requires c κs = search needs
 
 returns-3 : tie.Need-returns-3
 returns-3 c =
@@ -46,9 +29,6 @@ product-above-requires c κs =
     let e : badLevel (plan levels []) .fails ≡ false = rw (← c .before .first-bad-level .ensures) (le-ltb _ _ (c .if3 .left)) in
     record { from-one = λ i h. omega (arith, levels-passed (plan levels []) e i h) }
 
-plain-requires-3 : tie.Need-plain-requires-3
-plain-requires-3 c κs = search needs
-
 returns-4 : tie.Need-returns-4
 returns-4 c =
     let l = c .before .before .before .before in
@@ -61,9 +41,6 @@ returns-4 c =
       ← c .before .before .product-above .ensures,
       c .before .if4 .taken,
     )
-
-accepted-requires : tie.Need-accepted-requires
-accepted-requires c κs = search needs
 
 returns-5 : tie.Need-returns-5
 returns-5 c =
@@ -82,15 +59,15 @@ pub check-levels-spec : {M : Type 1} → statement M
 check-levels-spec =
     tie.close
     (tie.spec
-    plain-requires
+    (λ c κs. search needs)
     returns
-    plain-requires-2
+    (λ c κs. search needs)
     returns-2
-    first-bad-level-requires
-    placed-requires
+    (λ c κs. search needs)
+    (λ c κs. search needs)
     returns-3
     product-above-requires
-    plain-requires-3
+    (λ c κs. search needs)
     returns-4
-    accepted-requires
+    (λ c κs. search needs)
     returns-5)

@@ -1,6 +1,5 @@
 -- `planner::crumb_word` meets its contract: it is the library's answer for the length, with a refusal's number negated.
-use mathlib.Core.Path.{_∙_}
-use borrow.Author.Needs.{needs}
+use Rattle.exact.proofs.Ground.{_∙_, needs}
 use Rattle.exact.proofs.Bits.{of}
 use Rattle.rules.specs.Plan.{plan}
 use Rattle.words.specs.Answers.{plannerWord}
@@ -8,9 +7,6 @@ use Rattle.planner.specs.Calls.{of-plan, word, asked}
 use Rattle.planner.proofs.Calls.{call-number}
 use Rattle.planner.proofs.crumb_word.Statement.{statement}
 use Rattle.planner.proofs.crumb_word.Tie as tie
-
-word-requires : tie.Need-word-requires
-word-requires c κs = search needs
 
 number-or-requires : tie.Need-number-or-requires
 number-or-requires c κs =
@@ -26,4 +22,4 @@ returns c =
     ∙ rw (of (k .word .result .word) (c .before .struct-told .given .1 .0 .1), k .word .ensures)
 
 pub crumb-word-spec : {M : Type 1} → statement M
-crumb-word-spec = tie.close (tie.spec word-requires number-or-requires returns)
+crumb-word-spec = tie.close (tie.spec (λ c κs. search needs) number-or-requires returns)

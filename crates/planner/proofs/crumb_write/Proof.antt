@@ -1,8 +1,5 @@
 -- `planner::crumb_write` meets its contract: it is the library's answer, with a refusal's number negated.
-use borrow.Author.Needs.{needs}
-use mathlib.Core.Path.{_∙_}
-use native.Mathlib.Omega.{arith}
-use lib.ListN.{length}
+use Rattle.exact.proofs.Ground.{_∙_, arith, length, needs}
 use Rattle.exact.proofs.Bits.{of}
 use Rattle.rules.specs.Plan.{plan}
 use Rattle.writer.proofs.Writes.{write-few}
@@ -10,9 +7,6 @@ use Rattle.planner.specs.Calls.{written}
 use Rattle.planner.proofs.Calls.{call-number}
 use Rattle.planner.proofs.crumb_write.Statement.{statement}
 use Rattle.planner.proofs.crumb_write.Tie as tie
-
-write-requires : tie.Need-write-requires
-write-requires c κs = search needs
 
 of-size-requires : tie.Need-of-size-requires
 of-size-requires c κs =
@@ -26,9 +20,6 @@ number-or-requires c κs =
     let a = k .before .before .before .before .before .args in
     rw (k .write .ensures .0) (call-number (written (plan (a .levels .now) (a .table .now)) (length (a .room .now))))
 
-same-length : tie.Need-same-length
-same-length c = search needs
-
 returns : tie.Need-returns
 returns c =
     let w = c .before .before .before .before .before .write in
@@ -37,4 +28,4 @@ returns c =
 
 pub crumb-write-spec : {M : Type 1} → statement M
 crumb-write-spec =
-    tie.close (tie.spec write-requires of-size-requires number-or-requires same-length returns)
+    tie.close (tie.spec (λ c κs. search needs) of-size-requires number-or-requires (λ c. search needs) returns)

@@ -1,6 +1,5 @@
 -- The arguments that are left get fewer.
-use Prim.Native.Nat.{_-_}
-use native.Mathlib.Omega.{arith}
+use Rattle.exact.proofs.Ground.{_-_, arith}
 use Rattle.published.proofs.main.Statement.{statement}
 use Rattle.published.proofs.main.Tie as tie
 
@@ -19,12 +18,6 @@ loop-holds c = tt
 show-file-requires : tie.Need-show-file-requires Inv-loop μ-loop
 show-file-requires c κs = tt
 
-add-i : tie.Need-add-i Inv-loop μ-loop
-add-i c = omega arith
-
-loop-less : tie.Need-loop-less Inv-loop μ-loop
-loop-less c = omega arith
-
 loop-again : tie.Need-loop-again Inv-loop μ-loop
 loop-again c = tt
 
@@ -40,7 +33,7 @@ main-spec =
     arg-count-requires
     loop-holds
     show-file-requires
-    add-i
-    loop-less
+    (λ c. omega arith)
+    (λ c. omega arith)
     loop-again
     returns)

@@ -1,20 +1,16 @@
 -- `resolution::resolution` meets its contract: the routine is handed the plan's refusal and its words.
-use mathlib.Core.Path.{_∙_}
+use Rattle.exact.proofs.Ground.{_∙_, needs}
 use Rattle.rules.specs.Plan.{Plan, plan, everyRun}
 use Rattle.rules.specs.Refusals.{ofPlan}
 use Rattle.plan.proofs.Checks.{passed-good}
 use Rattle.resolution.specs.Resolution.{resolutionChecks}
 use Rattle.resolution.proofs.Answered.{resolution-answered}
 use Rattle.resolution.proofs.WholePlan.{plan-begins, words-refusal, words-measured}
-use borrow.Author.Needs.{needs}
 use Rattle.resolution.proofs.resolution.Statement.{statement}
 use Rattle.resolution.proofs.resolution.Tie as tie
 
 abbrev given : tie.After-words → Plan
 given w = let a = w .before .before .before .args in plan (a .levels .now) (a .table .now)
-
-words-requires : tie.Need-words-requires
-words-requires c κs = search needs
 
 resolution-answer-requires : tie.Need-resolution-answer-requires
 resolution-answer-requires c κs z =
@@ -31,4 +27,4 @@ returns c =
     (λ z. words-measured p (w .words .ensures) (passed-good p r z))
 
 pub resolution-spec : {M : Type 1} → statement M
-resolution-spec = tie.close (tie.spec words-requires resolution-answer-requires returns)
+resolution-spec = tie.close (tie.spec (λ c κs. search needs) resolution-answer-requires returns)

@@ -1,18 +1,7 @@
 -- The line stands in front of its room.
-use borrow.Author.Needs.{needs}
-use mathlib.Core.Path.{sym}
-use Prim.Native.Nat.{_≤_}
-use native.Mathlib.Omega.{arith}
-use lib.ListN.{length, length-append}
-use lib.Seq.{length-take-le}
+use Rattle.exact.proofs.Ground.{sym, _≤_, arith, length, length-append, length-take-le, needs}
 use Rattle.rewrite.proofs.show_refusal.Statement.{statement}
 use Rattle.rewrite.proofs.show_refusal.Tie as tie
-
-slice-aggregate-refusal-line : tie.Need-slice-aggregate-refusal-line
-slice-aggregate-refusal-line c = search needs
-
-refusal-line-requires : tie.Need-refusal-line-requires
-refusal-line-requires c κs = search needs
 
 -- it is no longer than its room
 fits : (c : tie.After-refusal-line) → c .refusal-line .result ≤ length (c .refusal-line .last .1 .0)
@@ -27,19 +16,13 @@ slice-aggregate-refuse : tie.Need-slice-aggregate-refuse
 slice-aggregate-refuse c =
     let w = c .before .before in sym (length-take-le (w .refusal-line .result) (w .refusal-line .last .1 .0) (fits w))
 
-refuse-requires : tie.Need-refuse-requires
-refuse-requires c κs = search needs
-
-returns : tie.Need-returns
-returns c = search needs
-
 pub show-refusal-spec : {M : Type 1} → statement M
 show-refusal-spec =
     tie.close
     (tie.spec
-    slice-aggregate-refusal-line
-    refusal-line-requires
+    (λ c. search needs)
+    (λ c κs. search needs)
     array-share-prefix-line
     slice-aggregate-refuse
-    refuse-requires
-    returns)
+    (λ c κs. search needs)
+    (λ c. search needs))

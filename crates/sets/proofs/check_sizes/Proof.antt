@@ -1,24 +1,13 @@
 -- `sets::check_sizes` meets its contract: each early return is the check of m, and past it the check of f decides.
-use mathlib.Core.Path.{_∙_}
-use borrow.Author.Needs.{needs}
-use borrow.Author.Tests.{lt-ltb, le-ltb}
+use Rattle.exact.proofs.Ground.{_∙_, needs, le-ltb, lt-ltb}
 use Rattle.sets.proofs.check_sizes.Statement.{statement}
 use Rattle.sets.proofs.check_sizes.Tie as tie
-
-plain-requires : tie.Need-plain-requires
-plain-requires c κs = search needs
 
 returns : tie.Need-returns
 returns c = c .plain .ensures ∙ rw (lt-ltb _ _ (c .before .if1 .taken))
 
-plain-requires-2 : tie.Need-plain-requires-2
-plain-requires-2 c κs = search needs
-
 returns-2 : tie.Need-returns-2
 returns-2 c = let n = c .before in c .plain2 .ensures ∙ rw (le-ltb _ _ (n .before .if1 .left), lt-ltb _ _ (n .if2 .taken))
-
-check-size-requires : tie.Need-check-size-requires
-check-size-requires c κs = search needs
 
 returns-3 : tie.Need-returns-3
 returns-3 c =
@@ -29,4 +18,4 @@ returns-3 c =
 pub check-sizes-spec : {M : Type 1} → statement M
 check-sizes-spec =
     tie.close
-    (tie.spec plain-requires returns plain-requires-2 returns-2 check-size-requires returns-3)
+    (tie.spec (λ c κs. search needs) returns (λ c κs. search needs) returns-2 (λ c κs. search needs) returns-3)

@@ -1,21 +1,11 @@
 -- `sets::place` meets its contract: past the checks m is at most 24 and the columns are a set.
-use mathlib.Core.Path.{_≡_, sym, _∙_, ap}
-use borrow.Author.Needs.{needs}
+use Rattle.exact.proofs.Ground.{_≡_, _∙_, sym, ap, needs}
 use Rattle.rules.specs.Refusals.{refusal}
 use Rattle.rules.proofs.Ranges.{unless-refused, unless-accepted, or-neither}
 use Rattle.sets.specs.Sets.{placeChecks, placeOf, placeAnswer}
 use Rattle.sets.proofs.Questions.{sizes-passed, set-passed, place-refusal}
 use Rattle.sets.proofs.place.Statement.{statement}
 use Rattle.sets.proofs.place.Tie as tie
-
-check-sizes-requires : tie.Need-check-sizes-requires
-check-sizes-requires c κs = search needs
-
-check-set-requires : tie.Need-check-set-requires
-check-set-requires c κs = search needs
-
-or-else-requires : tie.Need-or-else-requires
-or-else-requires c κs = search needs
 
 module _ (o : tie.After-or-else) where
   abbrev start : tie.Start
@@ -55,9 +45,9 @@ pub place-spec : {M : Type 1} → statement M
 place-spec =
     tie.close
     (tie.spec
-    check-sizes-requires
-    check-set-requires
-    or-else-requires
+    (λ c κs. search needs)
+    (λ c κs. search needs)
+    (λ c κs. search needs)
     returns
     place-requires
     returns-2)

@@ -1,16 +1,9 @@
 -- `sets::set_at` meets its contract: each return is the answer by the checks that led there, and a set of f has at most four columns.
-use mathlib.Core.Path.{_∙_, ap}
-use mathlib.Core.List.{[]}
-use Prim.Native.Nat.{_≤_, _<_}
-use native.Mathlib.Omega.{arith}
-use borrow.Author.Needs.{needs}
+use Rattle.exact.proofs.Ground.{[], _∙_, ap, _≤_, _<_, arith, needs}
 use Rattle.sets.specs.Sets.{binom}
 use Rattle.sets.proofs.Questions.{sizes-passed, chosen, set-stopped, set-past, set-found, four-columns}
 use Rattle.sets.proofs.set_at.Statement.{statement}
 use Rattle.sets.proofs.set_at.Tie as tie
-
-check-sizes-requires : tie.Need-check-sizes-requires
-check-sizes-requires c κs = search needs
 
 returns : tie.Need-returns
 returns c =
@@ -25,9 +18,6 @@ within c =
 
 binomial-requires : tie.Need-binomial-requires
 binomial-requires c κs = omega (arith, within c)
-
-plain-requires : tie.Need-plain-requires
-plain-requires c κs = search needs
 
 returns-2 : tie.Need-returns-2
 returns-2 c =
@@ -45,18 +35,6 @@ below c = rw (c .before .binomial .ensures) at (c .if2 .left)
 set-at-requires : tie.Need-set-at-requires
 set-at-requires c κs = let (m, f, l) = within (c .before .before) in (m, l, below c)
 
-array-read-t8 : tie.Need-array-read-t8
-array-read-t8 c = search needs
-
-array-read-t16 : tie.Need-array-read-t16
-array-read-t16 c = search needs
-
-array-read-t19 : tie.Need-array-read-t19
-array-read-t19 c = search needs
-
-array-read-t22 : tie.Need-array-read-t22
-array-read-t22 c = search needs
-
 returns-3 : tie.Need-returns-3
 returns-3 c =
     let n = c .before .before .before in
@@ -70,14 +48,14 @@ pub set-at-spec : {M : Type 1} → statement M
 set-at-spec =
     tie.close
     (tie.spec
-    check-sizes-requires
+    (λ c κs. search needs)
     returns
     binomial-requires
-    plain-requires
+    (λ c κs. search needs)
     returns-2
     set-at-requires
-    array-read-t8
-    array-read-t16
-    array-read-t19
-    array-read-t22
+    (λ c. search needs)
+    (λ c. search needs)
+    (λ c. search needs)
+    (λ c. search needs)
     returns-3)

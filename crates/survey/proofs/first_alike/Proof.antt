@@ -1,10 +1,5 @@
 -- `survey::first_alike` meets its contract: a refusal is the plan's, or that of the run, and beside none stands the first run alike.
-use borrow.Author.Needs.{needs}
-use borrow.Author.Tests.{lt-ltb, le-ltb}
-use mathlib.Core.Path.{_∙_, ap}
-use mathlib.Core.List.{List, [], _∷_}
-use Prim.Native.Nat.{ℕ}
-use native.Mathlib.Omega.{arith}
+use Rattle.exact.proofs.Ground.{List, [], _∷_, _∙_, ap, ℕ, arith, needs, le-ltb, lt-ltb}
 use Rattle.rules.specs.declared.Refusal.{Refusal}
 use Rattle.rules.specs.Plan.{Plan, plan, runs, everyRun}
 use Rattle.rules.specs.Refusals.{Check, badPlace}
@@ -34,9 +29,6 @@ module _ (k : tie.After-check) where
   abbrev value : ℕ
   value = firstAlike given (everyRun given) f
 
-check-requires : tie.Need-check-requires
-check-requires c κs = search needs
-
 returns : tie.Need-returns
 unfolding alikeAnswer
 returns c =
@@ -48,9 +40,6 @@ good c = let k = c .before .before in passed-good (given k) (k .check .ensures) 
 
 div-if2 : tie.Need-div-if2
 div-if2 c = good c .columns-low
-
-plain-requires : tie.Need-plain-requires
-plain-requires c κs = search needs
 
 returns-2 : tie.Need-returns-2
 unfolding alikeAnswer
@@ -74,10 +63,10 @@ pub first-alike-spec : {M : Type 1} → statement M
 first-alike-spec =
     tie.close
     (tie.spec
-    check-requires
+    (λ c κs. search needs)
     returns
     div-if2
-    plain-requires
+    (λ c κs. search needs)
     returns-2
     first-alike-requires
     returns-3)

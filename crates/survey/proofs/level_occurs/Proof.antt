@@ -1,11 +1,5 @@
 -- `level_occurs` meets its contract: a refusal is the plan's, or that of the column or level, and beside none stands whether the level occurs.
-use borrow.Author.Needs.{needs}
-use borrow.Author.Tests.{lt-ltb, le-ltb}
-use mathlib.Core.Path.{_≡_, _∙_, ap}
-use mathlib.Core.Bool.{Bool, false}
-use mathlib.Core.List.{List, [], _∷_}
-use Prim.Native.Nat.{ℕ}
-use native.Mathlib.Omega.{arith}
+use Rattle.exact.proofs.Ground.{false, Bool, List, [], _∷_, _≡_, _∙_, ap, ℕ, arith, needs, le-ltb, lt-ltb}
 use Rattle.rules.specs.declared.Refusal.{Refusal}
 use Rattle.rules.specs.Plan.{Plan, plan, columns, level, everyRun}
 use Rattle.rules.specs.Refusals.{Check, refusal, ofPlan, badPlace, plain}
@@ -37,9 +31,6 @@ module _ (k : tie.After-check) where
   abbrev value : Bool
   value = occurs given (everyRun given) i e
 
-check-requires : tie.Need-check-requires
-check-requires c κs = search needs
-
 returns : tie.Need-returns
 unfolding occursAnswer
 returns c =
@@ -53,19 +44,10 @@ unfolding occursAnswer
 wrong-place k r q z bad =
     ap (λ r. make r false) q ∙ call-own make false (value k) (given k) (own k) tt (k .check .ensures) z bad (λ n. omega arith)
 
-plain-requires : tie.Need-plain-requires
-plain-requires c κs = search needs
-
 returns-2 : tie.Need-returns-2
 returns-2 c =
     let d = c .before .before in let k = d .before .before in
     wrong-place k (c .plain .result) (c .plain .ensures) (d .if1 .left) (rw (le-ltb (i k) (columns (given k)) (c .before .if2 .taken)))
-
-shared-slice-read-if3 : tie.Need-shared-slice-read-if3
-shared-slice-read-if3 c = search needs
-
-plain-requires-2 : tie.Need-plain-requires-2
-plain-requires-2 c κs = search needs
 
 returns-3 : tie.Need-returns-3
 returns-3 c =
@@ -90,12 +72,12 @@ pub level-occurs-spec : {M : Type 1} → statement M
 level-occurs-spec =
     tie.close
     (tie.spec
-    check-requires
+    (λ c κs. search needs)
     returns
-    plain-requires
+    (λ c κs. search needs)
     returns-2
-    shared-slice-read-if3
-    plain-requires-2
+    (λ c. search needs)
+    (λ c κs. search needs)
     returns-3
     occurs-requires
     returns-4)

@@ -1,10 +1,5 @@
 -- The checks stand in their order, each return at the first that fails; the rooms are written only behind the last.
-use borrow.Author.Needs.{needs}
-use mathlib.Core.Path.{_≡_, _∙_, ap}
-use mathlib.Core.List.{List}
-use Prim.Native.Nat.{ℕ}
-use native.Mathlib.Omega.{arith}
-use lib.ListN.{length}
+use Rattle.exact.proofs.Ground.{List, _≡_, _∙_, ap, ℕ, arith, length, needs}
 use Rattle.rules.specs.Plan.{Plan, plan, columns, runs}
 use Rattle.rules.specs.Refusals.{refusal}
 use Rattle.plan.proofs.Checks.{passed-good}
@@ -22,12 +17,6 @@ levelsAt k = k .before .before .before .before .before .args .levelroom .now
 abbrev tableAt : tie.After-check → List ℕ
 tableAt k = k .before .before .before .before .before .args .tableroom .now
 
-check-requires : tie.Need-check-requires
-check-requires c κs = search needs
-
-refused-by-requires : tie.Need-refused-by-requires
-refused-by-requires c κs = search needs
-
 returns : tie.Need-returns
 returns c =
     let k = c .before .before .before in
@@ -36,12 +25,6 @@ returns c =
     let R = planRefusal p (length (levelsAt k)) (length (tableAt k)) in
     refused-answers R p (c .refused-by .result) (levelsAt k) (tableAt k)
     (refused-plan p (length (levelsAt k)) (length (tableAt k)) (k .check .ensures) n) n (c .refused-by .ensures)
-
-plain-requires : tie.Need-plain-requires
-plain-requires c κs = search needs
-
-refused-by-requires-2 : tie.Need-refused-by-requires-2
-refused-by-requires-2 c κs = search needs
 
 -- a plan that passed is refused by the rooms or not at all
 rooms-decide : (c : tie.Else1) →
@@ -62,12 +45,6 @@ returns-2 c =
     (rooms-decide e ∙ small-levels p a b (c .before .before .if2 .taken)) (λ z. omega arith)
     (c .refused-by2 .ensures ∙ ap refusedBy (c .before .plain .ensures))
 
-plain-requires-2 : tie.Need-plain-requires-2
-plain-requires-2 c κs = search needs
-
-refused-by-requires-3 : tie.Need-refused-by-requires-3
-refused-by-requires-3 c κs = search needs
-
 returns-3 : tie.Need-returns-3
 returns-3 c =
     let t = c .before .before in
@@ -80,15 +57,6 @@ returns-3 c =
     (rooms-decide e ∙ small-table p a b (t .before .if2 .left) (t .if3 .taken)) (λ z. omega arith)
     (c .refused-by3 .ensures ∙ ap refusedBy (c .before .plain2 .ensures))
 
-copy-requires : tie.Need-copy-requires
-copy-requires c κs = search needs
-
-copy-requires-2 : tie.Need-copy-requires-2
-copy-requires-2 c κs = search needs
-
-accepted-requires : tie.Need-accepted-requires
-accepted-requires c κs = search needs
-
 -- the place before the rooms are written
 abbrev unwritten : tie.After-accepted → tie.Else3
 unwritten c = c .before .before .before .before .before .before .before .before .before
@@ -97,12 +65,6 @@ div-t18 : tie.Need-div-t18
 div-t18 c =
     let e = unwritten c .before .before in
     passed-good (planAt (e .before .before)) (e .before .before .check .ensures) (e .if1 .left) .columns-low
-
-same-length : tie.Need-same-length
-same-length c = search needs
-
-same-length-2 : tie.Need-same-length-2
-same-length-2 c = search needs
 
 returns-4 : tie.Need-returns-4
 returns-4 c =
@@ -121,19 +83,19 @@ pub fill-spec : {M : Type 1} → statement M
 fill-spec =
     tie.close
     (tie.spec
-    check-requires
-    refused-by-requires
+    (λ c κs. search needs)
+    (λ c κs. search needs)
     returns
-    plain-requires
-    refused-by-requires-2
+    (λ c κs. search needs)
+    (λ c κs. search needs)
     returns-2
-    plain-requires-2
-    refused-by-requires-3
+    (λ c κs. search needs)
+    (λ c κs. search needs)
     returns-3
-    copy-requires
-    copy-requires-2
-    accepted-requires
+    (λ c κs. search needs)
+    (λ c κs. search needs)
+    (λ c κs. search needs)
     div-t18
-    same-length
-    same-length-2
+    (λ c. search needs)
+    (λ c. search needs)
     returns-4)

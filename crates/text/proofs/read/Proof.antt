@@ -1,11 +1,5 @@
 -- A text of at most 32,768 bytes has at most 16,384 numbers; the lines, then the plan and the rooms, are checked in the order of the refusals.
-use borrow.Author.Needs.{needs}
-use mathlib.Core.Path.{_≡_, sym, _∙_, ap}
-use mathlib.Core.List.{List}
-use Prim.Native.Nat.{ℕ, _-_}
-use native.Mathlib.Omega.{arith}
-use lib.ListN.{length, take, drop}
-use lib.Seq.{length-take-le}
+use Rattle.exact.proofs.Ground.{List, _≡_, _∙_, sym, ap, ℕ, _-_, arith, length, take, drop, length-take-le, needs}
 use Rattle.rules.specs.Refusals.{placed}
 use Rattle.text.specs.Text.{malformedLine, planOf}
 use Rattle.text.specs.Reader.{readRefusal, refusedBy}
@@ -13,12 +7,6 @@ use Rattle.text.proofs.TextLoop.{Parts, parts}
 use Rattle.text.proofs.Answers.{long-text, malformed-text, refused-answers, formed-answers}
 use Rattle.text.proofs.read.Statement.{statement}
 use Rattle.text.proofs.read.Tie as tie
-
-plain-requires : tie.Need-plain-requires
-plain-requires c κs = search needs
-
-refused-by-requires : tie.Need-refused-by-requires
-refused-by-requires c κs = search needs
 
 returns : tie.Need-returns
 returns c =
@@ -29,18 +17,6 @@ returns c =
     refused-answers (readRefusal t (length a) (length b)) (planOf t) (c .refused-by .result) a b
     (long-text t (length a) (length b) (c .before .before .if1 .taken)) (λ z. omega arith)
     (c .refused-by .ensures ∙ ap refusedBy (c .before .plain .ensures))
-
-slice-aggregate-read-lines : tie.Need-slice-aggregate-read-lines
-slice-aggregate-read-lines c = search needs
-
-read-lines-requires : tie.Need-read-lines-requires
-read-lines-requires c κs = search needs
-
-placed-requires : tie.Need-placed-requires
-placed-requires c κs = search needs
-
-refused-by-requires-2 : tie.Need-refused-by-requires-2
-refused-by-requires-2 c κs = search needs
 
 returns-2 : tie.Need-returns-2
 returns-2 c =
@@ -55,9 +31,6 @@ returns-2 c =
     refused-answers (readRefusal t (length a) (length b)) (planOf t) (c .refused-by2 .result) a b
     (malformed-text t (length a) (length b) (r .before .before .if1 .left) n) (λ z. omega arith)
     (c .refused-by2 .ensures ∙ ap refusedBy (c .before .placed .ensures ∙ ap (λ k. placed 14 k 0) e))
-
-slice-aggregate-stored : tie.Need-slice-aggregate-stored
-slice-aggregate-stored c = search needs
 
 -- the levels and the entries stand in the array one after the other
 abbrev linesAt : tie.Else2 → tie.After-read-lines
@@ -86,15 +59,6 @@ part-fill-start c = stored-parts (c .before .before) .ordered
 part-fill-end : tie.Need-part-fill-end
 part-fill-end c = stored-parts (c .before .before) .within
 
-fill-requires : tie.Need-fill-requires
-fill-requires c κs = search needs
-
-same-length : tie.Need-same-length
-same-length c = search needs
-
-same-length-2 : tie.Need-same-length-2
-same-length-2 c = search needs
-
 returns-3 : tie.Need-returns-3
 returns-3 c =
     let f = c .before .before .before .before in
@@ -115,20 +79,20 @@ pub read-spec : {M : Type 1} → statement M
 read-spec =
     tie.close
     (tie.spec
-    plain-requires
-    refused-by-requires
+    (λ c κs. search needs)
+    (λ c κs. search needs)
     returns
-    slice-aggregate-read-lines
-    read-lines-requires
-    placed-requires
-    refused-by-requires-2
+    (λ c. search needs)
+    (λ c κs. search needs)
+    (λ c κs. search needs)
+    (λ c κs. search needs)
     returns-2
-    slice-aggregate-stored
+    (λ c. search needs)
     slice-aggregate-fill
     sub-fill
     part-fill-start
     part-fill-end
-    fill-requires
-    same-length
-    same-length-2
+    (λ c κs. search needs)
+    (λ c. search needs)
+    (λ c. search needs)
     returns-3)

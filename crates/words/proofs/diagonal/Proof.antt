@@ -1,8 +1,5 @@
 -- `words::diagonal` meets its contract: a refusal is that of the levels, and beside none stands the value.
-use borrow.Author.Needs.{needs}
-use mathlib.Core.Path.{_∙_, ap, sym}
-use mathlib.Core.List.{List, []}
-use lib.IntN.{ℤ}
+use Rattle.exact.proofs.Ground.{List, [], _∙_, sym, ap, ℤ, needs}
 use Rattle.rules.specs.declared.Refusal.{Refusal}
 use Rattle.rules.specs.Plan.{plan}
 use Rattle.plan.proofs.Answers.{answer-refused, answer-accepted}
@@ -15,9 +12,6 @@ use Rattle.words.proofs.diagonal.Tie as tie
 -- the answer, of a refusal and the sums beside it
 abbrev make : Refusal → List ℤ → DiagonalAnswer
 make r x = record { refused = r; sums = x }
-
-check-levels-requires : tie.Need-check-levels-requires
-check-levels-requires c κs = search needs
 
 returns : tie.Need-returns
 unfolding diagonalAnswer
@@ -36,4 +30,4 @@ returns-2 c =
     ∙ answer-accepted make zeros (diagonalList (plan (k .before .before .args .levels .now) [])) (sym (k .check-levels .ensures)) (c .before .if1 .left)
 
 pub diagonal-spec : {M : Type 1} → statement M
-diagonal-spec = tie.close (tie.spec check-levels-requires returns diagonal-requires returns-2)
+diagonal-spec = tie.close (tie.spec (λ c κs. search needs) returns diagonal-requires returns-2)

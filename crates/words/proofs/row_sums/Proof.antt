@@ -1,8 +1,5 @@
 -- `words::row_sums` meets its contract: the routine is handed the plan's refusal and all its runs.
-use borrow.Author.Needs.{needs}
-use mathlib.Core.Path.{_∙_}
-use mathlib.Core.List.{List}
-use lib.ListN.{replicate}
+use Rattle.exact.proofs.Ground.{List, _∙_, replicate, needs}
 use Rattle.rules.specs.declared.Refusal.{Refusal}
 use Rattle.rules.specs.Plan.{Plan, plan, mostRuns}
 use Rattle.plan.proofs.CheckedRuns.{checked-fits, checked-long, checked-sound, handed-plain}
@@ -17,9 +14,6 @@ make r x = record { refused = r; rows = x }
 
 abbrev given : tie.After-checked-runs → Plan
 given k = let a = k .before .before .before .args in plan (a .levels .now) (a .table .now)
-
-checked-runs-requires : tie.Need-checked-runs-requires
-checked-runs-requires c κs = search needs
 
 array-share-prefix-runs : tie.Need-array-share-prefix-runs
 array-share-prefix-runs c = let k = c .before in checked-fits (given k) (k .checked-runs .ensures)
@@ -41,7 +35,7 @@ pub row-sums-spec : {M : Type 1} → statement M
 row-sums-spec =
     tie.close
     (tie.spec
-    checked-runs-requires
+    (λ c κs. search needs)
     array-share-prefix-runs
     slice-aggregate-row-sums-answer
     row-sums-answer-requires

@@ -1,13 +1,5 @@
 -- `words::word` meets its contract: a refusal is the plan's, or that of the length, and beside none stands the word.
-use borrow.Author.Needs.{needs}
-use mathlib.Core.Path.{_≡_, sym, _∙_, ap}
-use mathlib.Core.List.{[], _∷_}
-use Prim.Native.Nat.{ℕ, _-_, _≤_, _<_}
-use native.Mathlib.Omega.{arith}
-use lib.IntN.{ℤ, pos}
-use lib.ListN.{getD}
-use mir.Syntax.{w64}
-use mir.Val.{toZ, ofZ}
+use Rattle.exact.proofs.Ground.{[], _∷_, _≡_, _∙_, sym, ap, ℕ, _≤_, _<_, _-_, arith, pos, ℤ, getD, needs, w64, toZ, ofZ}
 use Rattle.exact.proofs.Bits.{fits, back}
 use Rattle.rules.specs.declared.Refusal.{Refusal}
 use Rattle.rules.specs.Plan.{Plan, plan, columns, level, entry, everyRun, everyColumn}
@@ -60,15 +52,6 @@ module _ (k : tie.After-or-else) where
     inside : (1 ≤ j) × (j ≤ columns given)
     inside = length-passed (columns given) j (k .before .check-length .ensures) (neither .1)
 
-check-requires : tie.Need-check-requires
-check-requires c κs = search needs
-
-check-length-requires : tie.Need-check-length-requires
-check-length-requires c κs = search needs
-
-or-else-requires : tie.Need-or-else-requires
-or-else-requires c κs = search needs
-
 returns : tie.Need-returns
 unfolding wordAnswer
 returns c = let k = c .before .before in answer-refused make (pos 0) (W k) (sym (whole k)) (c .if1 .taken)
@@ -108,9 +91,9 @@ pub word-spec : {M : Type 1} → statement M
 word-spec =
     tie.close
     (tie.spec
-    check-requires
-    check-length-requires
-    or-else-requires
+    (λ c κs. search needs)
+    (λ c κs. search needs)
+    (λ c κs. search needs)
     returns
     words-of-plan-requires
     sub-t8

@@ -1,10 +1,5 @@
 -- `text::write` meets its contract: a plan that passes its checks is good, so all its runs are sound.
-use borrow.Author.Needs.{needs}
-use mathlib.Core.Path.{_≡_, sym, _∙_, ap}
-use Prim.Native.Nat.{_-_}
-use native.Mathlib.Omega.{arith}
-use lib.ListN.{take, replicate}
-use lib.Seq.{take-at}
+use Rattle.exact.proofs.Ground.{_≡_, _∙_, sym, ap, _-_, arith, take, replicate, take-at, needs}
 use Rattle.exact.specs.Lists.{from}
 use Rattle.exact.proofs.Numbers.{length-from}
 use Rattle.rules.specs.Plan.{Plan, plan, runs, everyRun, mostRuns}
@@ -17,9 +12,6 @@ use Rattle.writer.proofs.write.Tie as tie
 
 abbrev planAt : tie.After-check → Plan
 planAt k = let a = k .before .before .before .before .args in plan (a .levels .now) (a .table .now)
-
-check-requires : tie.Need-check-requires
-check-requires c κs = search needs
 
 returns : tie.Need-returns
 returns c =
@@ -53,9 +45,6 @@ write-runs-requires : tie.Need-write-runs-requires
 write-runs-requires c κs =
     let e = c .before .before in rw (lent e) (good-runs (planAt (e .before .before .before)) (good (e .before)))
 
-same-length : tie.Need-same-length
-same-length c = search needs
-
 returns-2 : tie.Need-returns-2
 returns-2 c =
     let w = c .before .before in
@@ -69,12 +58,12 @@ pub write-spec : {M : Type 1} → statement M
 write-spec =
     tie.close
     (tie.spec
-    check-requires
+    (λ c κs. search needs)
     returns
     div-n
     every-run-requires
     array-share-prefix-every
     slice-aggregate-write-runs
     write-runs-requires
-    same-length
+    (λ c. search needs)
     returns-2)

@@ -6,21 +6,6 @@ use Rattle.console.proofs.LinesEnd.{line-found}
 use Rattle.console.proofs.lines.line_after.Statement.{statement}
 use Rattle.console.proofs.lines.line_after.Tie as tie
 
-lines-end-requires : tie.Need-lines-end-requires
-lines-end-requires c κs = search needs
-
-sub-rest : tie.Need-sub-rest
-sub-rest c = search needs
-
-part-rest-start : tie.Need-part-rest-start
-part-rest-start c = search needs
-
-part-rest-end : tie.Need-part-rest-end
-part-rest-end c = search needs
-
-lines-end-requires-2 : tie.Need-lines-end-requires-2
-lines-end-requires-2 c κs = search needs
-
 slice-aggregate-result : tie.Need-slice-aggregate-result
 slice-aggregate-result c = sym (length-take-le _ _ (c .before .lines-end2 .ensures .1))
 
@@ -35,10 +20,10 @@ pub line-after-spec : {M : Type 1} → statement M
 line-after-spec =
     tie.close
     (tie.spec
-    lines-end-requires
-    sub-rest
-    part-rest-start
-    part-rest-end
-    lines-end-requires-2
+    (λ c κs. search needs)
+    (λ c. search needs)
+    (λ c. search needs)
+    (λ c. search needs)
+    (λ c κs. search needs)
     slice-aggregate-result
     returns)

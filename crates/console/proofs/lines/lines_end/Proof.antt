@@ -19,18 +19,6 @@ loop-holds c = none-passed (c .args .text .now) (c .args .count)
 returns : tie.Need-returns Inv-loop μ-loop
 returns c = (lines-passed (c .before .before .loop .inv) (c .if1 .taken), omega arith)
 
-shared-slice-read-if2 : tie.Need-shared-slice-read-if2 Inv-loop μ-loop
-shared-slice-read-if2 c = omega arith
-
-sub-left : tie.Need-sub-left Inv-loop μ-loop
-sub-left c = omega arith
-
-add-at : tie.Need-add-at Inv-loop μ-loop
-add-at c = omega arith
-
-loop-less : tie.Need-loop-less Inv-loop μ-loop
-loop-less c = omega arith
-
 loop-again : tie.Need-loop-again Inv-loop μ-loop
 loop-again c =
     let b = c .before .before in
@@ -50,9 +38,9 @@ lines-end-spec =
     μ-loop
     loop-holds
     returns
-    shared-slice-read-if2
-    sub-left
-    add-at
-    loop-less
+    (λ c. omega arith)
+    (λ c. omega arith)
+    (λ c. omega arith)
+    (λ c. omega arith)
     loop-again
     returns-2)

@@ -1,8 +1,6 @@
 -- `fractions::gcd` meets its contract: each turn keeps the greatest common divisor of the pair and makes the second number smaller.
-use mathlib.Core.Path.{_≡_, refl, sym, _∙_, ap}
-use Prim.Native.Nat.{_<_}
+use Rattle.exact.proofs.Ground.{_≡_, _∙_, sym, ap, refl, _<_, arith}
 use native.Mathlib.Nat.{mod-lt}
-use native.Mathlib.Omega.{arith}
 use Rattle.exact.specs.Fractions.{gcd}
 use Rattle.exact.proofs.Divisors.{gcd-step, gcd-zero}
 use Rattle.exact.proofs.fractions.gcd.Statement.{statement}
@@ -13,9 +11,6 @@ Inv-loop a b x₀ y₀ x y = gcd x y ≡ gcd a b
 
 abbrev μ-loop : tie.MeasureT-loop
 μ-loop a b x₀ y₀ x y = y
-
-loop-holds : tie.Need-loop-holds Inv-loop μ-loop
-loop-holds c = refl
 
 above-zero : (c : tie.In-loop Inv-loop μ-loop) → 0 < c .before .loop .y
 above-zero c = omega arith
@@ -35,4 +30,4 @@ returns c =
     sym (gcd-zero x) ∙ ap (gcd x) (sym (c .loop-test .left)) ∙ c .before .loop .inv
 
 pub gcd-spec : {M : Type 1} → statement M
-gcd-spec = tie.close (tie.spec Inv-loop μ-loop loop-holds rem-rest loop-less loop-again returns)
+gcd-spec = tie.close (tie.spec Inv-loop μ-loop (λ c. refl) rem-rest loop-less loop-again returns)

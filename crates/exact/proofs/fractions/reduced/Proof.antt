@@ -1,12 +1,9 @@
 -- `fractions::reduced` meets its contract: the divisor is the definition's, and above 0 since b is.
-use borrow.Author.Needs.{needs}
+use Rattle.exact.proofs.Ground.{needs}
 use Rattle.exact.specs.Fractions.{reduced}
 use Rattle.exact.proofs.Divisors.{gcd-pos}
 use Rattle.exact.proofs.fractions.reduced.Statement.{statement}
 use Rattle.exact.proofs.fractions.reduced.Tie as tie
-
-gcd-requires : tie.Need-gcd-requires
-gcd-requires c κs = search needs
 
 div-num : tie.Need-div-num
 div-num c = rw (c .gcd .ensures) (gcd-pos (c .before .args .a) (c .before .args .b) (c .before .pre))
@@ -19,4 +16,4 @@ unfolding reduced
 returns c = rw (c .gcd .ensures)
 
 pub reduced-spec : {M : Type 1} → statement M
-reduced-spec = tie.close (tie.spec gcd-requires div-num div-den returns)
+reduced-spec = tie.close (tie.spec (λ c κs. search needs) div-num div-den returns)

@@ -1,6 +1,5 @@
 -- `fractions::smaller` meets its contract: each return is the definition's case under the tests that led there.
-use mathlib.Core.Path.{sym}
-use native.Mathlib.Omega.{arith}
+use Rattle.exact.proofs.Ground.{sym, arith}
 use Rattle.exact.proofs.Verdicts.{smaller-lt, smaller-gt, smaller-eq}
 use Rattle.exact.proofs.fractions.smaller.Statement.{statement}
 use Rattle.exact.proofs.fractions.smaller.Tie as tie

@@ -1,10 +1,7 @@
 -- `held::calls::all_marked` meets its contract: the marks of the first f runs are set.
-use borrow.Author.Needs.{needs}
-use mathlib.Core.Path.{_≡_, refl, sym, ap, _∙_}
-use mathlib.Core.Bool.{true, false}
-use Prim.Native.Nat.{_-_, _≤_, _<_}
-use native.Mathlib.Omega.{arith}
-use lib.ListN.{length, set, replicate, length-replicate, getD-replicate, length-set}
+use Rattle.exact.proofs.Ground.{true, false, _≡_, _∙_, sym, ap, refl, _≤_, _<_, _-_, arith, length, replicate, set, length-set, length-replicate}
+use Rattle.exact.proofs.Ground.{needs}
+use lib.ListN.{getD-replicate}
 use Rattle.exact.proofs.Rooms.{copied, copy-next, copy-all, into-blank}
 use Rattle.rules.specs.Plan.{mostRuns}
 use Rattle.held.proofs.calls.all_marked.Statement.{statement}
@@ -19,15 +16,6 @@ abbrev μ-loop : tie.MeasureT-loop
 
 loop-holds : tie.Need-loop-holds Inv-loop μ-loop
 loop-holds c = (omega arith, c .pre, search needs, refl)
-
-array-write-marks : tie.Need-array-write-marks Inv-loop μ-loop
-array-write-marks c = omega arith
-
-add-f : tie.Need-add-f Inv-loop μ-loop
-add-f c = omega arith
-
-loop-less : tie.Need-loop-less Inv-loop μ-loop
-loop-less c = omega arith
 
 loop-again : tie.Need-loop-again Inv-loop μ-loop
 loop-again c =
@@ -52,4 +40,4 @@ returns c =
 pub all-marked-spec : {M : Type 1} → statement M
 all-marked-spec =
     tie.close
-    (tie.spec Inv-loop μ-loop loop-holds array-write-marks add-f loop-less loop-again returns)
+    (tie.spec Inv-loop μ-loop loop-holds (λ c. omega arith) (λ c. omega arith) (λ c. omega arith) loop-again returns)

@@ -2,15 +2,9 @@
 use Rattle.rules.specs.Plan.{plan}
 use Rattle.plan.proofs.Checks.{passed-good}
 use Rattle.held.proofs.Opened.{open-refused, open-accepted}
-use borrow.Author.Needs.{needs}
+use Rattle.exact.proofs.Ground.{needs}
 use Rattle.held.proofs.calls.open.Statement.{statement}
 use Rattle.held.proofs.calls.open.Tie as tie
-
-check-requires : tie.Need-check-requires
-check-requires c κs = search needs
-
-empty-requires : tie.Need-empty-requires
-empty-requires c κs = search needs
 
 returns : tie.Need-returns
 returns c =
@@ -28,4 +22,4 @@ returns-2 c =
     rw (c .opened .ensures) (open-accepted (plan (a .levels .now) (a .table .now)) (c .before .before .before .check .ensures) (c .before .if1 .left))
 
 pub open-spec : {M : Type 1} → statement M
-open-spec = tie.close (tie.spec check-requires empty-requires returns opened-requires returns-2)
+open-spec = tie.close (tie.spec (λ c κs. search needs) (λ c κs. search needs) returns opened-requires returns-2)

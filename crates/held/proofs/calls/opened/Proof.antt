@@ -1,28 +1,12 @@
 -- `held::calls::opened` meets its contract: each part is copied, and the words are those of every run.
-use native.Mathlib.Omega.{arith}
+use Rattle.exact.proofs.Ground.{arith, needs}
 use Rattle.exact.proofs.Numbers.{mul-below}
 use Rattle.exact.proofs.Rooms.{into-blank}
-use Rattle.rules.specs.Plan.{plan, columns, runs, mostColumns, mostRuns}
+use Rattle.rules.specs.Plan.{plan, columns, runs, mostColumns, mostRuns, mostEntries}
 use Rattle.held.specs.Held.{heldOf}
 use Rattle.held.proofs.Standing.{all-stand}
-use borrow.Author.Needs.{needs}
 use Rattle.held.proofs.calls.opened.Statement.{statement}
 use Rattle.held.proofs.calls.opened.Tie as tie
-
-div-runs : tie.Need-div-runs
-div-runs c = search needs
-
-words-of-plan-requires : tie.Need-words-of-plan-requires
-words-of-plan-requires c κs = search needs
-
-slice-aggregate-copy : tie.Need-slice-aggregate-copy
-slice-aggregate-copy c = search needs
-
-copy-requires : tie.Need-copy-requires
-copy-requires c κs = search needs
-
-slice-aggregate-copy-2 : tie.Need-slice-aggregate-copy-2
-slice-aggregate-copy-2 c = search needs
 
 copy-requires-2 : tie.Need-copy-requires-2
 copy-requires-2 c κs =
@@ -30,9 +14,6 @@ copy-requires-2 c κs =
     let p = plan (s .args .levels .now) (s .args .table .now) in
     let G = s .pre in
     omega (arith, G .size, mul-below (runs p) (columns p) mostRuns mostColumns (G .runs-high) (G .columns-high))
-
-all-marked-requires : tie.Need-all-marked-requires
-all-marked-requires c κs = search needs
 
 returns : tie.Need-returns
 unfolding heldOf
@@ -46,7 +27,7 @@ returns c =
     rw (
       c .all-marked .ensures,
       copied .copy2 .ensures,
-      into-blank table 6144 0,
+      into-blank table mostEntries 0,
       copied .before .before .before .copy .ensures,
       into-blank levels mostColumns 0,
       worded .words-of-plan .ensures,
@@ -57,11 +38,11 @@ pub opened-spec : {M : Type 1} → statement M
 opened-spec =
     tie.close
     (tie.spec
-    div-runs
-    words-of-plan-requires
-    slice-aggregate-copy
-    copy-requires
-    slice-aggregate-copy-2
+    (λ c. search needs)
+    (λ c κs. search needs)
+    (λ c. search needs)
+    (λ c κs. search needs)
+    (λ c. search needs)
     copy-requires-2
-    all-marked-requires
+    (λ c κs. search needs)
     returns)

@@ -1,14 +1,10 @@
 -- `held::calls::reinstate` meets its contract: each branch is one of the definition, by the fields of the held plan.
-use native.Mathlib.Omega.{arith}
+use Rattle.exact.proofs.Ground.{arith, needs}
 use Rattle.held.specs.Held.{reinstates}
 use Rattle.held.proofs.Sizes.{sized}
 use Rattle.held.proofs.Branches.{outside-refused, standing-refused, reinstatement-accepted}
-use borrow.Author.Needs.{needs}
 use Rattle.held.proofs.calls.reinstate.Statement.{statement}
 use Rattle.held.proofs.calls.reinstate.Tie as tie
-
-plain-requires : tie.Need-plain-requires
-plain-requires c κs = search needs
 
 returns : tie.Need-returns
 returns c =
@@ -18,19 +14,10 @@ returns c =
 array-read-if2 : tie.Need-array-read-if2
 array-read-if2 c = omega (arith, sized (c .before .before .pre) .runs-high)
 
-plain-requires-2 : tie.Need-plain-requires-2
-plain-requires-2 c κs = search needs
-
 returns-2 : tie.Need-returns-2
 returns-2 c =
     let s = c .before .before .before .before in
     rw (c .plain2 .ensures) (standing-refused (s .pre) (s .args .run) (c .before .before .if1 .left) (c .before .if2 .taken))
-
-accepted-requires : tie.Need-accepted-requires
-accepted-requires c κs = search needs
-
-remarked-requires : tie.Need-remarked-requires
-remarked-requires c κs = search needs
 
 returns-3 : tie.Need-returns-3
 returns-3 c =
@@ -42,11 +29,11 @@ pub reinstate-spec : {M : Type 1} → statement M
 reinstate-spec =
     tie.close
     (tie.spec
-    plain-requires
+    (λ c κs. search needs)
     returns
     array-read-if2
-    plain-requires-2
+    (λ c κs. search needs)
     returns-2
-    accepted-requires
-    remarked-requires
+    (λ c κs. search needs)
+    (λ c κs. search needs)
     returns-3)

@@ -1,20 +1,10 @@
 -- `held::calls::remarked` meets its contract: the words changed by one row sum are those of the runs that then stand.
-use native.Mathlib.Omega.{arith}
+use Rattle.exact.proofs.Ground.{arith, needs}
 use Rattle.held.specs.Held.{remarked}
 use Rattle.held.proofs.Sizes.{sized}
 use Rattle.held.proofs.Lent.{factor-is, change-small, changed-held}
-use borrow.Author.Needs.{needs}
 use Rattle.held.proofs.calls.remarked.Statement.{statement}
 use Rattle.held.proofs.calls.remarked.Tie as tie
-
-row-of-requires : tie.Need-row-of-requires
-row-of-requires c κs = search needs
-
-diagonal-of-requires : tie.Need-diagonal-of-requires
-diagonal-of-requires c κs = search needs
-
-factor-requires : tie.Need-factor-requires
-factor-requires c κs = search needs
 
 changed-words-requires : tie.Need-changed-words-requires
 changed-words-requires c κs =
@@ -46,9 +36,9 @@ pub remarked-spec : {M : Type 1} → statement M
 remarked-spec =
     tie.close
     (tie.spec
-    row-of-requires
-    diagonal-of-requires
-    factor-requires
+    (λ c κs. search needs)
+    (λ c κs. search needs)
+    (λ c κs. search needs)
     changed-words-requires
     element-write-next
     returns)

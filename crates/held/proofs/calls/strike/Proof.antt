@@ -1,15 +1,11 @@
 -- `held::calls::strike` meets its contract: each branch is one of the definition, by the fields of the held plan.
-use native.Mathlib.Omega.{arith}
+use Rattle.exact.proofs.Ground.{arith, needs}
 use Rattle.held.specs.Held.{strikes}
 use Rattle.held.proofs.Sizes.{sized}
 use Rattle.held.proofs.Lent.{count-is}
 use Rattle.held.proofs.Branches.{outside-refused, struck-refused, last-refused, strike-accepted}
-use borrow.Author.Needs.{needs}
 use Rattle.held.proofs.calls.strike.Statement.{statement}
 use Rattle.held.proofs.calls.strike.Tie as tie
-
-plain-requires : tie.Need-plain-requires
-plain-requires c κs = search needs
 
 returns : tie.Need-returns
 returns c =
@@ -19,24 +15,12 @@ returns c =
 array-read-if2 : tie.Need-array-read-if2
 array-read-if2 c = omega (arith, sized (c .before .before .pre) .runs-high)
 
-standing-runs-requires : tie.Need-standing-runs-requires
-standing-runs-requires c κs = search needs
-
-plain-requires-2 : tie.Need-plain-requires-2
-plain-requires-2 c κs = search needs
-
 returns-2 : tie.Need-returns-2
 returns-2 c =
     let k = c .before .before .before in
     let s = k .before .before .before .before in
     let few = rw (count-is (s .pre) (k .standing-runs .ensures)) at (c .before .if3 .taken) in
     rw (c .plain2 .ensures) (last-refused (s .pre) (s .args .run) (k .before .before .if1 .left) (k .before .if2 .taken) few)
-
-accepted-requires : tie.Need-accepted-requires
-accepted-requires c κs = search needs
-
-remarked-requires : tie.Need-remarked-requires
-remarked-requires c κs = search needs
 
 returns-3 : tie.Need-returns-3
 returns-3 c =
@@ -45,9 +29,6 @@ returns-3 c =
     let many = rw (count-is (s .pre) (k .standing-runs .ensures)) at (c .before .before .if3 .left) in
     rw (c .before .accepted .ensures, c .remarked .ensures)
     (strike-accepted (s .pre) (s .args .run) (k .before .before .if1 .left) (k .before .if2 .taken) many)
-
-plain-requires-3 : tie.Need-plain-requires-3
-plain-requires-3 c κs = search needs
 
 returns-4 : tie.Need-returns-4
 returns-4 c =
@@ -58,14 +39,14 @@ pub strike-spec : {M : Type 1} → statement M
 strike-spec =
     tie.close
     (tie.spec
-    plain-requires
+    (λ c κs. search needs)
     returns
     array-read-if2
-    standing-runs-requires
-    plain-requires-2
+    (λ c κs. search needs)
+    (λ c κs. search needs)
     returns-2
-    accepted-requires
-    remarked-requires
+    (λ c κs. search needs)
+    (λ c κs. search needs)
     returns-3
-    plain-requires-3
+    (λ c κs. search needs)
     returns-4)

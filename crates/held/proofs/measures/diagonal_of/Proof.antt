@@ -3,7 +3,7 @@ use Rattle.held.specs.Held.{planIn, standingIn}
 use Rattle.words.proofs.OfPlan.{sound-levels}
 use Rattle.held.proofs.Sizes.{sized}
 use Rattle.held.proofs.Lent.{levels-lent, front}
-use borrow.Author.Needs.{needs}
+use Rattle.exact.proofs.Ground.{needs}
 use Rattle.held.proofs.measures.diagonal_of.Statement.{statement}
 use Rattle.held.proofs.measures.diagonal_of.Tie as tie
 
@@ -18,10 +18,7 @@ diagonal-requires c κs =
     let s = c .before .before in
     sound-levels (planIn (s .args .held)) (standingIn (s .args .held)) (sized (s .pre) .sound)
 
-returns : tie.Need-returns
-returns c = search needs
-
 pub diagonal-of-spec : {M : Type 1} → statement M
 diagonal-of-spec =
     tie.close
-    (tie.spec array-share-prefix-levels slice-aggregate-diagonal diagonal-requires returns)
+    (tie.spec array-share-prefix-levels slice-aggregate-diagonal diagonal-requires (λ c. search needs))

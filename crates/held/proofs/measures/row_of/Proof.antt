@@ -1,15 +1,12 @@
 -- `held::measures::row_of` meets its contract: the parts lent are the plan and the runs that stand.
 use Rattle.held.proofs.Sizes.{sized}
 use Rattle.held.proofs.Lent.{levels-lent, entries-lent, size-fits, runs-lent, lent-runs, lent-sound, front}
-use borrow.Author.Needs.{needs}
+use Rattle.exact.proofs.Ground.{needs}
 use Rattle.held.proofs.measures.row_of.Statement.{statement}
 use Rattle.held.proofs.measures.row_of.Tie as tie
 
 mul-size : tie.Need-mul-size
 mul-size c = record { fits = size-fits (c .before .pre .0) }
-
-standing-runs-requires : tie.Need-standing-runs-requires
-standing-runs-requires c κs = search needs
 
 array-share-prefix-levels : tie.Need-array-share-prefix-levels
 array-share-prefix-levels c = levels-lent (c .before .before .before .before .before .pre .0)
@@ -48,7 +45,7 @@ row-of-spec =
     tie.close
     (tie.spec
     mul-size
-    standing-runs-requires
+    (λ c κs. search needs)
     array-share-prefix-levels
     slice-aggregate-row
     array-share-prefix-entries

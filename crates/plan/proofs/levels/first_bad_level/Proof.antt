@@ -1,11 +1,5 @@
 -- What is left to search, from the present column on, is what the whole search finds.
-use mathlib.Core.Path.{_≡_, sym, _∙_}
-use mathlib.Core.Bool.{true}
-use mathlib.Core.List.{[]}
-use Prim.Native.Nat.{_-_, _≤_}
-use native.Mathlib.Omega.{arith}
-use borrow.Author.Tests.{lt-ltb, le-ltb}
-use lib.ListN.{length}
+use Rattle.exact.proofs.Ground.{true, [], _≡_, _∙_, sym, _≤_, _-_, arith, length, le-ltb, lt-ltb}
 use Rattle.exact.specs.Lists.{first}
 use Rattle.exact.proofs.Searches.{first-found, first-none}
 use Rattle.rules.specs.Plan.{plan}
@@ -27,9 +21,6 @@ loop-holds c =
     let e : length levels - 0 ≡ length levels = omega arith in
     (omega arith, rw e)
 
-shared-slice-read-if1 : tie.Need-shared-slice-read-if1 Inv-loop μ-loop
-shared-slice-read-if1 c = omega arith
-
 found : (c : tie.In-loop Inv-loop μ-loop) →
     let levels = c .before .before .args .levels .now in
     badLevelIn levels (c .before .loop .i) ≡ true → c .before .loop .i ≡ firstBadLevel (plan levels [])
@@ -41,17 +32,8 @@ found c bad =
 returns : tie.Need-returns Inv-loop μ-loop
 returns c = found (c .before .before) (rw (lt-ltb _ _ (c .if1 .taken)))
 
-shared-slice-read-if2 : tie.Need-shared-slice-read-if2 Inv-loop μ-loop
-shared-slice-read-if2 c = omega arith
-
 returns-2 : tie.Need-returns-2 Inv-loop μ-loop
 returns-2 c = found (c .before .before .before .before) (rw (le-ltb _ _ (c .before .before .if1 .left), lt-ltb _ _ (c .if2 .taken)))
-
-add-i : tie.Need-add-i Inv-loop μ-loop
-add-i c = omega arith
-
-loop-less : tie.Need-loop-less Inv-loop μ-loop
-loop-less c = omega arith
 
 loop-again : tie.Need-loop-again Inv-loop μ-loop
 loop-again c =
@@ -76,11 +58,11 @@ first-bad-level-spec =
     Inv-loop
     μ-loop
     loop-holds
-    shared-slice-read-if1
+    (λ c. omega arith)
     returns
-    shared-slice-read-if2
+    (λ c. omega arith)
     returns-2
-    add-i
-    loop-less
+    (λ c. omega arith)
+    (λ c. omega arith)
     loop-again
     returns-3)

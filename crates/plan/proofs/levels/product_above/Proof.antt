@@ -1,10 +1,5 @@
 -- The product so far times that of the levels left is the whole product.
-use borrow.Author.Needs.{needs}
-use mathlib.Core.Path.{_≡_, refl, sym, _∙_}
-use Prim.Native.Nat.{_*_, _-_, _≤_, _<_}
-use native.Mathlib.Omega.{arith}
-use borrow.Author.Tests.{lt-ltb, le-ltb}
-use lib.ListN.{length, getD, drop}
+use Rattle.exact.proofs.Ground.{_≡_, _∙_, sym, refl, _≤_, _<_, _-_, _*_, arith, length, getD, drop, needs, le-ltb, lt-ltb}
 use Rattle.exact.specs.Lists.{product}
 use Rattle.exact.proofs.Numbers.{mul-below}
 use Rattle.rules.specs.Plan.{highestProduct}
@@ -19,15 +14,6 @@ Inv-loop levels so-far₀ i₀ i-end so-far i =
 abbrev μ-loop : tie.MeasureT-loop
 μ-loop levels so-far₀ i₀ i-end so-far i = length levels - i
 
-loop-holds : tie.Need-loop-holds Inv-loop μ-loop
-loop-holds c = omega arith
-
-shared-slice-read-wide : tie.Need-shared-slice-read-wide Inv-loop μ-loop
-shared-slice-read-wide c = omega arith
-
-wide-requires : tie.Need-wide-requires Inv-loop μ-loop
-wide-requires c κs = search needs
-
 mul-product : tie.Need-mul-product Inv-loop μ-loop
 mul-product c =
     let l = c .before .before .before .loop in
@@ -40,12 +26,6 @@ returns c =
     let levels = l .before .before .args .levels .now in
     let so-far : highestProduct < l .loop .product * getD levels (l .loop .i) 0 = rw (← c .before .wide .ensures) (c .if1 .taken) in
     sym (lt-ltb _ _ (product-grows levels (l .loop .i) (l .loop .product) highestProduct (l .before .before .pre) (omega arith) (l .loop .inv .3) so-far))
-
-add-i : tie.Need-add-i Inv-loop μ-loop
-add-i c = omega arith
-
-loop-less : tie.Need-loop-less Inv-loop μ-loop
-loop-less c = omega arith
 
 loop-again : tie.Need-loop-again Inv-loop μ-loop
 loop-again c =
@@ -65,12 +45,12 @@ product-above-spec =
     (tie.spec
     Inv-loop
     μ-loop
-    loop-holds
-    shared-slice-read-wide
-    wide-requires
+    (λ c. omega arith)
+    (λ c. omega arith)
+    (λ c κs. search needs)
     mul-product
     returns
-    add-i
-    loop-less
+    (λ c. omega arith)
+    (λ c. omega arith)
     loop-again
     returns-2)

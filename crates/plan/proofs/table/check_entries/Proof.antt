@@ -1,9 +1,5 @@
 -- What is left to search, from the present entry on, is what the whole search finds; each run ends where the next begins.
-use borrow.Author.Needs.{needs}
-use mathlib.Core.Path.{_≡_, sym, _∙_}
-use Prim.Native.Nat.{_+_, _*_, _-_, _≤_, _<_}
-use native.Mathlib.Omega.{arith}
-use lib.ListN.{length}
+use Rattle.exact.proofs.Ground.{_≡_, _∙_, sym, _≤_, _<_, _-_, _+_, _*_, arith, length, needs}
 use Rattle.exact.specs.Lists.{first}
 use Rattle.exact.proofs.Numbers.{row-within, mul-below}
 use Rattle.exact.proofs.Searches.{first-found, first-none}
@@ -27,9 +23,6 @@ Inv-runs levels table n m found₀ f₀ found f =
 
 abbrev μ-runs : tie.MeasureT-runs
 μ-runs levels table n m found₀ f₀ found f = n - f
-
-accepted-requires : tie.Need-accepted-requires Inv-loop μ-loop Inv-runs μ-runs
-accepted-requires c κs = search needs
 
 runs-holds : tie.Need-runs-holds Inv-loop μ-loop Inv-runs μ-runs
 unfolding firstBadEntry
@@ -58,9 +51,6 @@ loop-holds c =
     let z : l .f * length (a .levels .now) + 0 ≡ l .f * length (a .levels .now) = omega arith in
     (omega arith, omega arith, l .inv .1, rw z (l .inv .2))
 
-shared-slice-read-if1 : tie.Need-shared-slice-read-if1 Inv-loop μ-loop Inv-runs μ-runs
-shared-slice-read-if1 c = omega arith
-
 mul-if1 : tie.Need-mul-if1 Inv-loop μ-loop Inv-runs μ-runs
 mul-if1 c = omega (arith, inside (c .before .before))
 
@@ -69,15 +59,6 @@ add-if1 c = omega (arith, inside (c .before .before))
 
 shared-slice-read-if1-2 : tie.Need-shared-slice-read-if1-2 Inv-loop μ-loop Inv-runs μ-runs
 shared-slice-read-if1-2 c = omega (arith, inside (c .before .before .before))
-
-placed-requires : tie.Need-placed-requires Inv-loop μ-loop Inv-runs μ-runs
-placed-requires c κs = search needs
-
-add-i : tie.Need-add-i Inv-loop μ-loop Inv-runs μ-runs
-add-i c = omega arith
-
-loop-less : tie.Need-loop-less Inv-loop μ-loop Inv-runs μ-runs
-loop-less c = omega arith
 
 loop-again : tie.Need-loop-again Inv-loop μ-loop Inv-runs μ-runs
 loop-again c =
@@ -92,12 +73,6 @@ loop-again c =
       l .loop .inv .3 ∙ rw e (search-on (badEntryIn (a .levels .now) (a .table .now)) k (length (a .table .now)) (omega (arith, inside l))
           (entry-below (a .levels .now) (a .table .now) f (l .loop .i) (omega arith) (c .if1 .left))),
     )
-
-add-f : tie.Need-add-f Inv-loop μ-loop Inv-runs μ-runs
-add-f c = omega arith
-
-runs-less : tie.Need-runs-less Inv-loop μ-loop Inv-runs μ-runs
-runs-less c = omega arith
 
 runs-again : tie.Need-runs-again Inv-loop μ-loop Inv-runs μ-runs
 runs-again c =
@@ -136,19 +111,19 @@ check-entries-spec =
     μ-loop
     Inv-runs
     μ-runs
-    accepted-requires
+    (λ c κs. search needs)
     runs-holds
     loop-holds
-    shared-slice-read-if1
+    (λ c. omega arith)
     mul-if1
     add-if1
     shared-slice-read-if1-2
-    placed-requires
-    add-i
-    loop-less
+    (λ c κs. search needs)
+    (λ c. omega arith)
+    (λ c. omega arith)
     loop-again
-    add-f
-    runs-less
+    (λ c. omega arith)
+    (λ c. omega arith)
     runs-again
     returns
     returns-2)

@@ -1,33 +1,14 @@
 -- Each return is the case of the definition that its tests lead to; the entries are asked last.
-use mathlib.Core.Path.{_∙_}
+use Rattle.exact.proofs.Ground.{_∙_, arith, length, needs, ne-eqb, le-ltb, eq-eqb, lt-ltb}
 use native.Mathlib.Nat.{div-add-mod'}
-use native.Mathlib.Omega.{arith}
-use borrow.Author.Tests.{lt-ltb, le-ltb, eq-eqb, ne-eqb}
-use lib.ListN.{length}
-use borrow.Author.Needs.{needs}
 use Rattle.plan.proofs.table.check_table.Statement.{statement}
 use Rattle.plan.proofs.table.check_table.Tie as tie
-
-plain-requires : tie.Need-plain-requires
-plain-requires c κs = search needs
 
 returns : tie.Need-returns
 returns c = rw (c .plain .ensures, eq-eqb _ _ (c .before .if1 .taken))
 
-rem-if2 : tie.Need-rem-if2
-rem-if2 c = search needs
-
-plain-requires-2 : tie.Need-plain-requires-2
-plain-requires-2 c κs = search needs
-
 returns-2 : tie.Need-returns-2
 returns-2 c = rw (c .plain2 .ensures, ne-eqb _ _ (c .before .before .if1 .left), ne-eqb _ _ (c .before .if2 .taken))
-
-div-n : tie.Need-div-n
-div-n c = search needs
-
-plain-requires-3 : tie.Need-plain-requires-3
-plain-requires-3 c κs = search needs
 
 returns-3 : tie.Need-returns-3
 returns-3 c =
@@ -52,13 +33,13 @@ pub check-table-spec : {M : Type 1} → statement M
 check-table-spec =
     tie.close
     (tie.spec
-    plain-requires
+    (λ c κs. search needs)
     returns
-    rem-if2
-    plain-requires-2
+    (λ c. search needs)
+    (λ c κs. search needs)
     returns-2
-    div-n
-    plain-requires-3
+    (λ c. search needs)
+    (λ c κs. search needs)
     returns-3
     check-entries-requires
     returns-4)

@@ -1,6 +1,5 @@
 -- The columns that are left get fewer.
-use Prim.Native.Nat.{_-_}
-use native.Mathlib.Omega.{arith}
+use Rattle.exact.proofs.Ground.{_-_, arith}
 use Rattle.published.proofs.figures.columns.Statement.{statement}
 use Rattle.published.proofs.figures.columns.Tie as tie
 
@@ -16,12 +15,6 @@ loop-holds c = tt
 column-requires : tie.Need-column-requires Inv-loop μ-loop
 column-requires c κs = tt
 
-add-i : tie.Need-add-i Inv-loop μ-loop
-add-i c = omega arith
-
-loop-less : tie.Need-loop-less Inv-loop μ-loop
-loop-less c = omega arith
-
 loop-again : tie.Need-loop-again Inv-loop μ-loop
 loop-again c = tt
 
@@ -31,4 +24,4 @@ returns c = tt
 pub columns-spec : {M : Type 1} → statement M
 columns-spec =
     tie.close
-    (tie.spec Inv-loop μ-loop loop-holds column-requires add-i loop-less loop-again returns)
+    (tie.spec Inv-loop μ-loop loop-holds column-requires (λ c. omega arith) (λ c. omega arith) loop-again returns)

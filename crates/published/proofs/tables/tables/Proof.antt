@@ -1,6 +1,5 @@
 -- The sizes that are left get fewer.
-use Prim.Native.Nat.{_-_}
-use native.Mathlib.Omega.{arith}
+use Rattle.exact.proofs.Ground.{_-_, arith}
 use Rattle.published.proofs.tables.tables.Statement.{statement}
 use Rattle.published.proofs.tables.tables.Tie as tie
 
@@ -22,12 +21,6 @@ absolute-requires c κs = tt
 relative-requires : tie.Need-relative-requires Inv-loop μ-loop
 relative-requires c κs = tt
 
-add-f : tie.Need-add-f Inv-loop μ-loop
-add-f c = omega arith
-
-loop-less : tie.Need-loop-less Inv-loop μ-loop
-loop-less c = omega arith
-
 loop-again : tie.Need-loop-again Inv-loop μ-loop
 loop-again c = tt
 
@@ -44,7 +37,7 @@ tables-spec =
     returns
     absolute-requires
     relative-requires
-    add-f
-    loop-less
+    (λ c. omega arith)
+    (λ c. omega arith)
     loop-again
     returns-2)

@@ -1,20 +1,9 @@
 -- `figures_of` meets its contract: each figure is one division, and the next word's is zero where R is the number of columns.
-use mathlib.Core.Path.{_≡_, refl, _∙_}
-use native.Mathlib.Omega.{arith}
-use mir.Syntax.{w64}
-use mir.Val.{toZ, ofZ}
+use Rattle.exact.proofs.Ground.{_≡_, _∙_, refl, arith, needs, ne-eqb, eq-eqb, w64, toZ, ofZ}
 use lib.Ieee.{ofBits}
-use borrow.Author.Tests.{eq-eqb, ne-eqb}
 use Rattle.exact.proofs.Bits.{fits, back, of}
-use borrow.Author.Needs.{needs}
 use Rattle.resolution.proofs.answers.figures_of.Statement.{statement}
 use Rattle.resolution.proofs.answers.figures_of.Tie as tie
-
-quotient-requires : tie.Need-quotient-requires
-quotient-requires c κs = search needs
-
-of-u64-requires : tie.Need-of-u64-requires
-of-u64-requires c κs = search needs
 
 quotient-requires-2 : tie.Need-quotient-requires-2
 quotient-requires-2 c κs = rw (of _ (c .of-u64 .ok) ∙ c .of-u64 .ensures) (search needs)
@@ -33,9 +22,6 @@ returns c =
     let u = k .before in
     let s = u .before .before .before .before in
     rw (eq-eqb _ _ (c .if1 .taken), u .before .quotient .ensures, plain-word s, k .quotient2 .ensures, of _ (u .of-u64 .ok) ∙ u .of-u64 .ensures) refl
-
-quotient-requires-3 : tie.Need-quotient-requires-3
-quotient-requires-3 c κs = search needs
 
 returns-2 : tie.Need-returns-2
 returns-2 c =
@@ -57,9 +43,9 @@ pub figures-of-spec : {M : Type 1} → statement M
 figures-of-spec =
     tie.close
     (tie.spec
-    quotient-requires
-    of-u64-requires
+    (λ c κs. search needs)
+    (λ c κs. search needs)
     quotient-requires-2
     returns
-    quotient-requires-3
+    (λ c κs. search needs)
     returns-2)

@@ -1,23 +1,11 @@
 -- `generalized_of` meets its contract: q is at most 1000, so that 1000(R + 1) - q is not below zero.
-use native.Mathlib.Omega.{arith}
-use mathlib.Core.Path.{refl}
-use borrow.Author.Tests.{eq-eqb, ne-eqb}
+use Rattle.exact.proofs.Ground.{refl, arith, needs, ne-eqb, eq-eqb}
 use Rattle.resolution.proofs.Root.{root-is}
-use borrow.Author.Needs.{needs}
 use Rattle.resolution.proofs.answers.generalized_of.Statement.{statement}
 use Rattle.resolution.proofs.answers.generalized_of.Tie as tie
 
 returns : tie.Need-returns
 returns c = rw (ne-eqb _ _ (c .if1 .taken))
-
-add-thousandths : tie.Need-add-thousandths
-add-thousandths c = search needs
-
-mul-thousandths : tie.Need-mul-thousandths
-mul-thousandths c = search needs
-
-root-requires : tie.Need-root-requires
-root-requires c κs = search needs
 
 sub-thousandths : tie.Need-sub-thousandths
 sub-thousandths c =
@@ -30,4 +18,4 @@ returns-2 c = rw (eq-eqb _ _ (c .before .before .if1 .left), c .root .ensures) r
 pub generalized-of-spec : {M : Type 1} → statement M
 generalized-of-spec =
     tie.close
-    (tie.spec returns add-thousandths mul-thousandths root-requires sub-thousandths returns-2)
+    (tie.spec returns (λ c. search needs) (λ c. search needs) (λ c κs. search needs) sub-thousandths returns-2)

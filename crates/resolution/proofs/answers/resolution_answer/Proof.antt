@@ -1,7 +1,5 @@
 -- `resolution_answer` meets its contract: the tests are those of the refusal and of the check 11.
-use mathlib.Core.Path.{refl}
-use borrow.Author.Tests.{lt-ltb, le-ltb, eq-eqb, ne-eqb}
-use borrow.Author.Needs.{needs}
+use Rattle.exact.proofs.Ground.{refl, needs, ne-eqb, le-ltb, eq-eqb, lt-ltb}
 use Rattle.resolution.proofs.answers.resolution_answer.Statement.{statement}
 use Rattle.resolution.proofs.answers.resolution_answer.Tie as tie
 
@@ -11,16 +9,10 @@ returns c = rw (ne-eqb _ 0 (c .if1 .taken), ne-eqb _ 0 (c .if1 .taken))
 resolution-requires : tie.Need-resolution-requires
 resolution-requires c κs = c .before .before .pre (c .if1 .left)
 
-plain-requires : tie.Need-plain-requires
-plain-requires c κs = search needs
-
 returns-2 : tie.Need-returns-2
 returns-2 c =
     let k = c .before .before in
     rw (eq-eqb _ 0 (k .before .if1 .left), ← k .resolution .ensures, lt-ltb _ _ (c .before .if2 .taken), c .plain .ensures) refl
-
-accepted-requires : tie.Need-accepted-requires
-accepted-requires c κs = search needs
 
 returns-3 : tie.Need-returns-3
 returns-3 c =
@@ -30,4 +22,4 @@ returns-3 c =
 pub resolution-answer-spec : {M : Type 1} → statement M
 resolution-answer-spec =
     tie.close
-    (tie.spec returns resolution-requires plain-requires returns-2 accepted-requires returns-3)
+    (tie.spec returns resolution-requires (λ c κs. search needs) returns-2 (λ c κs. search needs) returns-3)

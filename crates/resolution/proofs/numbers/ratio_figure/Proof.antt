@@ -1,16 +1,11 @@
 -- `ratio_figure` meets its contract: zero is clear, and any other ratio one division.
-use mathlib.Core.Path.{refl, _∙_}
-use borrow.Author.Tests.{eq-eqb, ne-eqb}
+use Rattle.exact.proofs.Ground.{_∙_, refl, needs, ne-eqb, eq-eqb}
 use Rattle.exact.proofs.Bits.{of}
-use borrow.Author.Needs.{needs}
 use Rattle.resolution.proofs.numbers.ratio_figure.Statement.{statement}
 use Rattle.resolution.proofs.numbers.ratio_figure.Tie as tie
 
 returns : tie.Need-returns
 returns c = rw (eq-eqb _ _ (c .if1 .taken))
-
-of-u64-requires : tie.Need-of-u64-requires
-of-u64-requires c κs = search needs
 
 quotient-requires : tie.Need-quotient-requires
 quotient-requires c κs =
@@ -22,4 +17,4 @@ returns-2 c =
     rw (ne-eqb _ _ (u .before .if1 .left), c .quotient .ensures, of _ (u .of-u64 .ok) ∙ u .of-u64 .ensures) refl
 
 pub ratio-figure-spec : {M : Type 1} → statement M
-ratio-figure-spec = tie.close (tie.spec returns of-u64-requires quotient-requires returns-2)
+ratio-figure-spec = tie.close (tie.spec returns (λ c κs. search needs) quotient-requires returns-2)

@@ -1,9 +1,6 @@
 -- `root` meets its contract: what is left to search, from q on, finds the root at each turn. A denominator below 2 ^ 32 keeps every product small.
-use mathlib.Core.Path.{_≡_, refl}
-use Prim.Native.Nat.{_*_, _-_, _^_, _≤_}
-use native.Mathlib.Omega.{arith}
+use Rattle.exact.proofs.Ground.{_≡_, refl, _≤_, _-_, _*_, _^_, arith, le-leb, lt-leb}
 use Rattle.exact.proofs.Numbers.{mul-below}
-use borrow.Author.Tests.{le-leb, lt-leb}
 use Rattle.resolution.specs.Resolution.{rootOf}
 use Rattle.resolution.proofs.Searching.{Left, left-found, left-later, left-last}
 use Rattle.resolution.proofs.Root.{enough, root-start}
@@ -15,9 +12,6 @@ Inv-loop x wanted q₀ q = (wanted ≡ 1_000_000 * x .num) × (q ≤ 1000) × Le
 
 abbrev μ-loop : tie.MeasureT-loop
 μ-loop x wanted q₀ q = 1000 - q
-
-mul-wanted : tie.Need-mul-wanted Inv-loop μ-loop
-mul-wanted c = omega arith
 
 loop-holds : tie.Need-loop-holds Inv-loop μ-loop
 loop-holds c = (refl, omega arith, root-start (c .before .args .x))
@@ -41,12 +35,6 @@ returns c =
     let x = l .before .before .args .x in
     left-found (enough x) 1000 (rootOf x) (l .loop .q) (l .loop .inv .2) (omega arith) (le-leb _ _ (c .if1 .taken))
 
-add-q : tie.Need-add-q Inv-loop μ-loop
-add-q c = omega arith
-
-loop-less : tie.Need-loop-less Inv-loop μ-loop
-loop-less c = omega arith
-
 loop-again : tie.Need-loop-again Inv-loop μ-loop
 loop-again c =
     let l = c .before .before .before in
@@ -65,12 +53,12 @@ root-spec =
     (tie.spec
     Inv-loop
     μ-loop
-    mul-wanted
+    (λ c. omega arith)
     loop-holds
     mul-if1
     mul-if1-2
     returns
-    add-q
-    loop-less
+    (λ c. omega arith)
+    (λ c. omega arith)
     loop-again
     returns-2)

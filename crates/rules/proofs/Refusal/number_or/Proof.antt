@@ -1,14 +1,9 @@
 -- `Refusal::number_or` meets its contract: a refusal number is small, so that zero less it fits.
-use mathlib.Core.Path.{sym, _∙_, ap}
-use lib.IntN.{pos, negℤ, _-ℤ_}
+use Rattle.exact.proofs.Ground.{_∙_, sym, ap, pos, _-ℤ_, negℤ, needs}
 use Rattle.exact.proofs.Bits.{of, back}
 use Rattle.rules.proofs.Ranges.{unless-refused, unless-accepted, less, less-small}
-use borrow.Author.Needs.{needs}
 use Rattle.rules.proofs.Refusal.number_or.Statement.{statement}
 use Rattle.rules.proofs.Refusal.number_or.Tie as tie
-
-of-u64-requires : tie.Need-of-u64-requires
-of-u64-requires c κs = search needs
 
 returns : tie.Need-returns
 returns c =
@@ -29,4 +24,4 @@ returns-2 c =
     back (c .before .fits .value) ∙ sym (unless-accepted (a .self) (negℤ (pos (a .self .number))) (a .value) (c .if1 .left))
 
 pub number-or-spec : {M : Type 1} → statement M
-number-or-spec = tie.close (tie.spec of-u64-requires sub-requires returns returns-2)
+number-or-spec = tie.close (tie.spec (λ c κs. search needs) sub-requires returns returns-2)

@@ -1,5 +1,5 @@
 -- `Refusal::or_else` meets its contract.
-use mathlib.Core.Path.{sym}
+use Rattle.exact.proofs.Ground.{sym}
 use Rattle.rules.proofs.Ranges.{or-refused, or-accepted}
 use Rattle.rules.proofs.Refusal.or_else.Statement.{statement}
 use Rattle.rules.proofs.Refusal.or_else.Tie as tie

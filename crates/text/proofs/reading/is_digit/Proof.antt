@@ -1,5 +1,5 @@
 -- The two comparisons are those of the definition.
-use borrow.Author.Tests.{le-leb, lt-leb}
+use Rattle.exact.proofs.Ground.{le-leb, lt-leb}
 use Rattle.text.proofs.reading.is_digit.Statement.{statement}
 use Rattle.text.proofs.reading.is_digit.Tie as tie
 

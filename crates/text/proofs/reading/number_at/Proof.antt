@@ -1,25 +1,8 @@
 -- The two bytes from the place on are the first two of what is left of the text there.
-use borrow.Author.Needs.{needs}
-use mathlib.Core.Path.{_≡_, _∙_, ap, ap₂}
-use Prim.Native.Nat.{_+_}
-use native.Mathlib.Nat.{add-zero}
-use lib.ListN.{getD}
-use lib.Seq.{getD-drop}
+use Rattle.exact.proofs.Ground.{_≡_, _∙_, ap, ap₂, _+_, add-zero, getD, getD-drop, needs}
 use Rattle.text.specs.Reading.{numberOf, numberAt}
 use Rattle.text.proofs.reading.number_at.Statement.{statement}
 use Rattle.text.proofs.reading.number_at.Tie as tie
-
-byte-at-requires : tie.Need-byte-at-requires
-byte-at-requires c κs = search needs
-
-add-byte-at : tie.Need-add-byte-at
-add-byte-at c = search needs
-
-byte-at-requires-2 : tie.Need-byte-at-requires-2
-byte-at-requires-2 c κs = search needs
-
-number-of-requires : tie.Need-number-of-requires
-number-of-requires c κs = search needs
 
 returns : tie.Need-returns
 unfolding numberAt
@@ -32,4 +15,4 @@ returns c =
 
 pub number-at-spec : {M : Type 1} → statement M
 number-at-spec =
-    tie.close (tie.spec byte-at-requires add-byte-at byte-at-requires-2 number-of-requires returns)
+    tie.close (tie.spec (λ c κs. search needs) (λ c. search needs) (λ c κs. search needs) (λ c κs. search needs) returns)

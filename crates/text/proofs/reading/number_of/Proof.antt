@@ -1,22 +1,12 @@
 -- Each return is the case of the definition that the tests before it name.
-use borrow.Author.Needs.{needs}
-use borrow.Author.Tests.{not-true, not-false, eq-eqb, ne-eqb}
-use mathlib.Core.Path.{_≡_, sym, _∙_}
-use mathlib.Core.Bool.{true}
-use native.Mathlib.Omega.{arith}
+use Rattle.exact.proofs.Ground.{true, _≡_, _∙_, sym, arith, needs, ne-eqb, eq-eqb, not-true, not-false}
 use Rattle.text.specs.Text.{isDigit}
 use Rattle.text.proofs.Digits.{digit-is}
 use Rattle.text.proofs.reading.number_of.Statement.{statement}
 use Rattle.text.proofs.reading.number_of.Tie as tie
 
-is-digit-requires : tie.Need-is-digit-requires
-is-digit-requires c κs = search needs
-
 returns : tie.Need-returns
 returns c = rw (sym (c .before .is-digit .ensures) ∙ not-true _ (c .if1 .taken))
-
-is-digit-requires-2 : tie.Need-is-digit-requires-2
-is-digit-requires-2 c κs = search needs
 
 one-digit : (c : tie.Else1) → isDigit (c .before .before .args .first) ≡ true
 one-digit c = sym (c .before .is-digit .ensures) ∙ not-false _ (c .if1 .left)
@@ -56,9 +46,9 @@ pub number-of-spec : {M : Type 1} → statement M
 number-of-spec =
     tie.close
     (tie.spec
-    is-digit-requires
+    (λ c κs. search needs)
     returns
-    is-digit-requires-2
+    (λ c κs. search needs)
     sub-t5
     returns-2
     returns-3

@@ -1,8 +1,5 @@
 -- The numbers stored and what is left of the line make up the whole line; each turn stores the number in front of what is left.
-use mathlib.Core.Path.{_≡_, sym, _∙_, ap}
-use Prim.Native.Nat.{ℕ, _+_, _-_, _≤_, _<_}
-use native.Mathlib.Omega.{arith}
-use lib.ListN.{length, set, length-set}
+use Rattle.exact.proofs.Ground.{_≡_, _∙_, sym, ap, ℕ, _≤_, _<_, _-_, _+_, arith, length, set, length-set}
 use Rattle.text.proofs.Front.{number-inside}
 use Rattle.text.proofs.LineLoop.{SoFar, line-begins, room-left, room-length, line-goes-on, line-ends, no-number, no-separator}
 use Rattle.text.proofs.reading.read_line.Statement.{statement}

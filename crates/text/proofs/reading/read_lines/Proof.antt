@@ -1,8 +1,5 @@
 -- The lines stored and what is left of the text make up the whole text; each turn stores the line in front of what is left.
-use mathlib.Core.Path.{_≡_, refl, _∙_}
-use Prim.Native.Nat.{_-_, _<_}
-use native.Mathlib.Omega.{arith}
-use lib.ListN.{length}
+use Rattle.exact.proofs.Ground.{_≡_, _∙_, refl, _<_, _-_, arith, length}
 use Rattle.text.proofs.TextLoop.{LinesSoFar, gets-on, first-unread, first-read, next-unread, other-count, next-read, all-read, none-read}
 use Rattle.text.proofs.reading.read_lines.Statement.{statement}
 use Rattle.text.proofs.reading.read_lines.Tie as tie

@@ -1,6 +1,0 @@
-pub mod Tables
-pub mod Shifts
-pub mod Lines
-pub mod Walks
-pub mod Answers
-pub mod Figures

@@ -1,3 +1,0 @@
-pub mod Frequencies
-pub mod Given
-pub mod Properties

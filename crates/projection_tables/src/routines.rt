@@ -1,0 +1,208 @@
+// For our own crates: the tables of some runs of a plan, each named by its number.
+use crate::TableAnswer;
+use exact::fractions::Fraction;
+use exact::fractions::is_better;
+use exact::fractions::is_equal;
+use exact::fractions::smaller_fraction;
+use rules::Refusal;
+use set_words::routines::value;
+ghost use mathlib.Core.Path.{_≡_};
+ghost use Prim.Native.Nat.{_≤_, _<_, min};
+ghost use lib.ListN.{length, take};
+ghost use Rattle.exact.specs.Lists.{into, first};
+ghost use Rattle.exact.specs.Fractions.{ShortDenominator};
+ghost use Rattle.rules.specs.Plan.{plan, columns};
+ghost use Rattle.rules.specs.Refusals.{refusal, orElse};
+ghost use Rattle.sets.specs.Sets.{binom};
+ghost use Rattle.set_words.specs.Given.{Tabled, SizeOf};
+ghost use Rattle.projection_tables.specs.Given.{Comparable, Fillable, Wide, putBefore, notSmaller};
+ghost use Rattle.projection_tables.specs.Tables.{tableIn, rooms, linesIn, oneMore, roomsFilled, tableChecks, tableBeside, roomsBeside};
+ghost use Rattle.projection_tables.specs.Tables.{tableAnswer, tableRooms};
+
+// Puts x in before place `at` of the first `used`; the next place after those is free.
+fn put_before(room: &mut [u64], used: usize, at: usize, x: u64)
+    requires { ⌜ (at ≤ used) × (used < length (now room)) ⌝ }
+    ensures { λ _. ⌜ now (room .exit) ≡ into (putBefore at x (take used (now (room .entry)))) (now (room .entry)) ⌝ }
+{
+    let mut k = used;
+    while at < k {
+        room[k] = room[k - 1];
+        k -= 1;
+    }
+    room[at] = x;
+}
+
+// The place of a value among the first `used`, which rise: that of the first which is not smaller.
+fn place_of(nums: &[u64], dens: &[u64], used: usize, value: Fraction) -> usize
+    requires { ⌜ Comparable (now nums) (now dens) used × ShortDenominator value ⌝ }
+    ensures { λ r. ⌜ r ≡ first (notSmaller (now (nums .entry)) (now (dens .entry)) value) 0 used ⌝ }
+{
+    for k in 0..used {
+        let line = Fraction {
+            num: nums[k],
+            den: dens[k],
+        };
+        if !is_better(smaller_fraction(line, value)) {
+            return k;
+        }
+    }
+    used
+}
+
+// One set more of this value in the table of `used` lines: its line's count one higher, or a line of count 1 put in its place.
+// The answer is the number of lines.
+fn count_value(
+    nums: &mut [u64],
+    dens: &mut [u64],
+    counts: &mut [u64],
+    used: usize,
+    value: Fraction,
+) -> usize
+    requires { ⌜ Fillable used (rooms (now nums) (now dens) (now counts)) × ShortDenominator value ⌝ }
+    ensures lines { λ r. ⌜ (let R = rooms (now (nums .entry)) (now (dens .entry)) (now (counts .entry)) in
+        r ≡ length (oneMore value (linesIn R used))) ⌝ }
+    ensures table { λ _. ⌜ (let R = rooms (now (nums .entry)) (now (dens .entry)) (now (counts .entry)) in
+        rooms (now (nums .exit)) (now (dens .exit)) (now (counts .exit)) ≡ roomsFilled (oneMore value (linesIn R used)) R) ⌝ }
+{
+    let at = place_of(nums, dens, used, value);
+    if at < used {
+        let line = Fraction {
+            num: nums[at],
+            den: dens[at],
+        };
+        if is_equal(smaller_fraction(line, value)) {
+            counts[at] = counts[at] + 1;
+            return used;
+        }
+    }
+    put_before(nums, used, at, value.num);
+    put_before(dens, used, at, value.den);
+    put_before(counts, used, at, 1);
+    used + 1
+}
+
+// The table for size f, in the first places of three rooms: one walk over the sets. The answer is the number of lines.
+fn tabulate(
+    levels: &[u8],
+    table: &[u8],
+    runs: &[usize],
+    f: usize,
+    relative: bool,
+    nums: &mut [u64],
+    dens: &mut [u64],
+    counts: &mut [u64],
+) -> usize
+    requires { ⌜ Tabled (plan (now levels) (now table)) (now runs)
+        × (SizeOf (length (now levels)) f × Wide (binom (length (now levels)) f) (rooms (now nums) (now dens) (now counts))) ⌝ }
+    ensures lines { λ r. ⌜ (let p = plan (now (levels .entry)) (now (table .entry)) in
+        r ≡ length (tableIn relative p (now (runs .entry)) f)) ⌝ }
+    ensures table { λ _. ⌜ (let p = plan (now (levels .entry)) (now (table .entry)) in
+        let R = rooms (now (nums .entry)) (now (dens .entry)) (now (counts .entry)) in
+        rooms (now (nums .exit)) (now (dens .exit)) (now (counts .exit)) ≡ roomsFilled (tableIn relative p (now (runs .entry)) f) R) ⌝ }
+{
+    let m = levels.len();
+    let mut counters = [0u16; 65536];
+    let mut used = 0;
+    for k in 0..sets::routines::binomial(m, f) {
+        let set = sets::routines::set_at(m, f, k);
+        let value = value(levels, table, runs, &set[..f], relative, &mut counters);
+        used = count_value(nums, dens, counts, used, value);
+    }
+    used
+}
+
+// The first n numbers go into the front of a lent room, and the rest of it stays.
+fn copy_into(xs: &[u64], n: usize, room: &mut [u64])
+    requires { ⌜ (n ≤ length (now xs)) × (n ≤ length (now room)) ⌝ }
+    ensures { λ _. ⌜ now (room .exit) ≡ into (take n (now (xs .entry))) (now (room .entry)) ⌝ }
+{
+    for i in 0..n {
+        room[i] = xs[i];
+    }
+}
+
+fn smaller(a: usize, b: usize) -> usize
+    ensures { λ r. ⌜ r ≡ min a b ⌝ }
+{
+    if a < b { a } else { b }
+}
+
+// The table for size f in three lent rooms, and the number of its lines; refusal 7 where a room is too short. Nothing is written before
+// the number of lines is known. There are at most 10,626 sets: 4 of 24 columns.
+pub fn frequencies(
+    levels: &[u8],
+    table: &[u8],
+    runs: &[usize],
+    f: usize,
+    relative: bool,
+    nums: &mut [u64],
+    dens: &mut [u64],
+    counts: &mut [u64],
+) -> TableAnswer
+    requires { ⌜ Tabled (plan (now levels) (now table)) (now runs) × SizeOf (length (now levels)) f ⌝ }
+    ensures answer { λ r. ⌜ (let p = plan (now (levels .entry)) (now (table .entry)) in
+        let ls = tableIn relative p (now (runs .entry)) f in
+        let R = rooms (now (nums .entry)) (now (dens .entry)) (now (counts .entry)) in
+        r ≡ tableAnswer (λ checks. checks) (columns p) f ls R) ⌝ }
+    ensures rooms { λ _. ⌜ (let p = plan (now (levels .entry)) (now (table .entry)) in
+        let ls = tableIn relative p (now (runs .entry)) f in
+        let R = rooms (now (nums .entry)) (now (dens .entry)) (now (counts .entry)) in
+        rooms (now (nums .exit)) (now (dens .exit)) (now (counts .exit)) ≡ tableRooms (λ checks. checks) (columns p) f ls R) ⌝ }
+{
+    let mut values = [0u64; 10626];
+    let mut unders = [0u64; 10626];
+    let mut sets = [0u64; 10626];
+    let lines = tabulate(
+        levels,
+        table,
+        runs,
+        f,
+        relative,
+        &mut values,
+        &mut unders,
+        &mut sets,
+    );
+    if smaller(nums.len(), smaller(dens.len(), counts.len())) < lines {
+        return TableAnswer {
+            refused: Refusal::plain(7),
+            lines: 0,
+        };
+    }
+    copy_into(&values, lines, nums);
+    copy_into(&unders, lines, dens);
+    copy_into(&sets, lines, counts);
+    TableAnswer {
+        refused: Refusal::accepted(),
+        lines,
+    }
+}
+
+// The answer for some runs of a plan, behind the refusal that the call begins with: 6, of the size, and 7 last.
+pub fn table_answer(
+    refused: Refusal,
+    levels: &[u8],
+    table: &[u8],
+    runs: &[usize],
+    f: usize,
+    relative: bool,
+    nums: &mut [u64],
+    dens: &mut [u64],
+    counts: &mut [u64],
+) -> TableAnswer
+    requires { ⌜ (refused .number ≡ 0 → Tabled (plan (now levels) (now table)) (now runs)) ⌝ }
+    ensures answer { λ r. ⌜ (let p = plan (now (levels .entry)) (now (table .entry)) in
+        let ls = tableIn relative p (now (runs .entry)) f in
+        let R = rooms (now (nums .entry)) (now (dens .entry)) (now (counts .entry)) in
+        r ≡ tableBeside ls (orElse refused (refusal (tableChecks (columns p) f ls R)))) ⌝ }
+    ensures rooms { λ _. ⌜ (let p = plan (now (levels .entry)) (now (table .entry)) in
+        let ls = tableIn relative p (now (runs .entry)) f in
+        let R = rooms (now (nums .entry)) (now (dens .entry)) (now (counts .entry)) in
+        rooms (now (nums .exit)) (now (dens .exit)) (now (counts .exit))
+        ≡ roomsBeside ls R (orElse refused (refusal (tableChecks (columns p) f ls R)))) ⌝ }
+{
+    let refused = refused.or_else(sets::routines::check_size(levels.len(), f));
+    if refused.number != 0 {
+        return TableAnswer { refused, lines: 0 };
+    }
+    frequencies(levels, table, runs, f, relative, nums, dens, counts)
+}

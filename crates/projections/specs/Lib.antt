@@ -1,2 +1,0 @@
-pub mod Projections
-pub mod Given

@@ -1,9 +1,0 @@
-pub mod Puts
-pub mod Lines
-pub mod Words
-pub mod Every
-pub mod Measures
-pub mod Ratings
-pub mod Texts
-pub mod Answers
-pub mod Figures

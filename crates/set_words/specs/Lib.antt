@@ -1,0 +1,3 @@
+pub mod SetWords
+pub mod Given
+pub mod Properties

@@ -1,6 +1,0 @@
-pub mod Rises
-pub mod Lent
-pub mod Rating
-pub mod Seen
-pub mod Alike
-pub mod Figures

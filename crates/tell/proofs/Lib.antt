@@ -1,0 +1,14 @@
+pub mod Grouping
+pub mod Cells
+pub mod Telling
+pub mod Laws
+pub mod Links
+pub mod Words
+pub mod Mixed
+pub mod Shown
+pub mod Balanced
+pub mod OfPlan
+pub mod Turns
+pub mod Joining
+pub mod Asking
+pub mod Figures

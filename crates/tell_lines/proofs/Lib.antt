@@ -1,0 +1,9 @@
+pub mod Sifted
+pub mod Rows
+pub mod Least
+pub mod CellNumbers
+pub mod CellLoop
+pub mod Evidence
+pub mod Whole
+pub mod Asked
+pub mod Figures

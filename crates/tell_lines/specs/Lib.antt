@@ -1,0 +1,2 @@
+pub mod TellLines
+pub mod Parts
