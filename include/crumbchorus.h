@@ -19,13 +19,13 @@
 #include <stddef.h>
 #include <stdint.h>
 
-#define CRUMB_VERSION "0.9.0"
-#define CRUMB_VERSION_NUMBER 900 /* 10000 * major + 100 * minor + patch */
+#define CRUMB_VERSION "0.10.0"
+#define CRUMB_VERSION_NUMBER 1000 /* 10000 * major + 100 * minor + patch */
 
 /* The refusals: number, name, what is wrong, what to do. A call that is
- * refused answers the number negated. Number 12 is not used. The checks stand
- * in the order 13, 14, 1, 2, 3, 4, 5, 6, 8, 9, 10, 11, 7; the first that
- * applies is given. A table of their words, for instance:
+ * refused answers the number negated. Numbers 12 and 15 are not used. The
+ * checks stand in the order 13, 14, 1, 2, 3, 4, 5, 6, 16, 8, 9, 10, 11, 7; the
+ * first that applies is given. A table of their words, for instance:
  *
  *     #define ROW(number, name, wrong, advice) { number, wrong, advice },
  *     static const struct { int number; const char *wrong, *advice; }
@@ -44,7 +44,8 @@
     X(10, CRUMB_TOO_FEW, "fewer runs stand than the call needs", "The last standing run cannot be struck.") \
     X(11, CRUMB_NO_RESOLUTION, "every word is zero, so there is no resolution", "The plan has every level combination equally often.") \
     X(13, CRUMB_TOO_LONG, "the text is longer than 32,768 bytes", "A plan of 256 runs and 24 columns is shorter: is this a plan?") \
-    X(14, CRUMB_MALFORMED, "a line of the text is malformed", "A line is numbers with single commas, as many as in line 1, and a line end.")
+    X(14, CRUMB_MALFORMED, "a line of the text is malformed", "A line is numbers with single commas, as many as in line 1, and a line end.") \
+    X(16, CRUMB_PAST_RESOLUTION, "the relative table is asked for a size above the resolution", "Ask for a size up to the resolution, or for the absolute table.")
 
 #define CRUMB_REFUSAL_NAME(number, name, wrong, advice) , name = number
 enum crumb_refusal { CRUMB_ANSWERED = 0 CRUMB_REFUSALS(CRUMB_REFUSAL_NAME) };
@@ -193,6 +194,39 @@ int64_t crumb_tell(const uint8_t *levels, size_t columns,
                    const uint8_t *standing, size_t runs,
                    uint64_t column, const size_t *others, size_t count,
                    uint8_t *room, size_t bytes);
+
+/* The projection frequency table for size f, 1 to 4 and no more than the
+ * columns, of the runs that stand (`standing` as above): the distinct values
+ * of all sets of f columns, rising, each with the number of sets that have it.
+ * The value of a set is its word over the square of the number of runs; in the
+ * relative table, which any `relative` but 0 asks for, that is divided by the
+ * smallest level of the set less one (0 where that level is 1). That divisor
+ * is derived for sets of R columns, R being the resolution, the smallest length
+ * with a word above zero: there the value 1 is complete aliasing. Below R the
+ * relative table has only zeros; above R it would say nothing, and is refused.
+ * A plan without words is answered at every size.
+ *
+ * Line k has its numerator in nums[k], its denominator in dens[k] and its
+ * count in counts[k], from the front of each room; a value is a reduced
+ * fraction. The answer is the number of lines, 10,626 at most. What is past
+ * them stays as it was. A negative answer is a refusal number, negated; the
+ * first that applies, in this order, is given, and nothing is written:
+ *   -1 to -5  the plan is refused, as above
+ *   -8  the marks are not as many as the runs
+ *   -10 no run stands
+ *   -6  f is outside 1..4, or above the number of columns
+ *   -16 the relative table is asked for f above R
+ *   -7  a room has fewer places than the table has lines
+ *
+ * Stack: less than 416 KB, 249 KB of it for the lines of the largest table.
+ */
+int64_t crumb_table(const uint8_t *levels, size_t columns,
+                    const uint8_t *table, size_t entries,
+                    const uint8_t *standing, size_t runs,
+                    uint64_t f, uint64_t relative,
+                    uint64_t *nums, size_t num_places,
+                    uint64_t *dens, size_t den_places,
+                    uint64_t *counts, size_t count_places);
 
 #ifdef __cplusplus
 }

@@ -1,5 +1,5 @@
 /* The library's answers, by the exports of `asked`, `asked_held` and
- * `asked_projections`.
+ * `asked_projections`, and by crumb_table.
  */
 #include "asked.h"
 
@@ -18,6 +18,8 @@ size asked_advice(PLAN, size *, size *);
 size asked_in_turn(PLAN, size, size *, size *);
 size asked_place(size, size, const size *, size, size *, size *);
 size asked_set_at(size, size, size, size *, size *);
+
+long crumb_table(PLAN, const byte *, size, unsigned long, unsigned long, unsigned long *, size, unsigned long *, size, unsigned long *, size);
 
 size asked_held_call(HELD, unsigned long);
 size asked_held_words(HELD, long *);
@@ -71,6 +73,16 @@ static void put_figures(Answer *a, const double *figures, long count)
 
 /* ---- a plan */
 
+/* The number of lines, or the refusal negated; no places. */
+static void ask_marked(const Input *x, const Question *q, Answer *a)
+{
+    unsigned long *nums = room(a, q->rooms[0]), *dens = room(a, q->rooms[1]), *counts = room(a, q->rooms[2]);
+    long lines = crumb_table(GIVEN(x), q->marks, (size)q->marked, q->number, q->relative, nums, (size)q->rooms[0], dens,
+                             (size)q->rooms[1], counts, (size)q->rooms[2]);
+    a->refused = lines < 0 ? (unsigned long)-lines : 0;
+    *room(a, 1) = lines < 0 ? 0 : (unsigned long)lines;
+}
+
 static void ask_plan(const Input *x, const Question *q, Answer *a)
 {
     double figures[3] = { CANARY, CANARY, CANARY };
@@ -95,6 +107,7 @@ static void ask_plan(const Input *x, const Question *q, Answer *a)
         a->refused = asked_place(q->columns, q->set.size, q->set.columns, (size)q->set.count, room(a, 1), a->places);
         break;
     case SET_AT: a->refused = asked_set_at(q->columns, q->set.size, q->number, room(a, 4), a->places); break;
+    case MARKED: ask_marked(x, q, a); break;
     }
 }
 

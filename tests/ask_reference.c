@@ -513,6 +513,7 @@ static void tell_table(const Runs *r, const Question *q, int relative, Answer *a
         shortest = q->rooms[k] < shortest ? q->rooms[k] : shortest;
     if (refused.number == 0) {
         long f = (long)q->number;
+        refused = then(refused, relative && f > resolution(r), 16);
         for (int more = first_set(set, f, r->columns); more; more = next_set(set, f, r->columns))
             values[sets++] = value(r, set, f, relative);
         lines = list_values(values, sets, listed, counts);
@@ -528,6 +529,25 @@ static void tell_table(const Runs *r, const Question *q, int relative, Answer *a
     tell_room(a, counts, lines, q->rooms[2]);
     refuses(a, refused, 0);
     tell(a, lines);
+}
+
+/* The marks, where there are any: 8 where they are not as many as the runs, 10 where none stands. A refusal has no places. */
+static void tell_marked(Runs *r, const Question *q, Answer *a)
+{
+    int marked = q->marked > 0 && r->start.number == 0;
+    r->start = plain(r->start.number);
+    if (marked && q->marked != r->count)
+        r->start = plain(8);
+    else if (marked) {
+        long all = r->count;
+        r->count = 0;
+        for (long f = 0; f < all; f++)
+            if (q->marks[f] != 0)
+                r->runs[r->count++] = f;
+        if (r->count == 0)
+            r->start = plain(10);
+    }
+    tell_table(r, q, q->relative != 0, a);
 }
 
 /* 11 where there is no resolution; a column that is asked for comes before. */
@@ -704,6 +724,7 @@ static void tell_answer(const Input *input, Runs *r, const Question *q, Answer *
     case ADVICE: tell_advice(r, a); break;
     case IN_TURN: tell_in_turn(r, q->number, a); break;
     case DIAGONAL: tell_diagonal(input, a); break;
+    case MARKED: tell_marked(r, q, a); break;
     default: tell_places(q, a);
     }
 }

@@ -19,22 +19,26 @@ typedef struct {
 } Input;
 
 /* CALL asks for one call more, GENERALIZED and what stands before it for held plans alone, DIAGONAL and what stands behind it for
- * plans alone. */
+ * plans alone. MARKED is a table of the runs that the marks leave standing, as a C program asks for it. */
 enum {
     CALL, WORD, SET_WORD, ABSOLUTE, RELATIVE, GENERALIZED, WORDS, ROW_SUMS, STRENGTH, RESOLUTION, CHART, FIGURE, COMPARISON, ADVICE,
-    IN_TURN, DIAGONAL, PLACE, SET_AT, QUESTIONS
+    IN_TURN, DIAGONAL, PLACE, SET_AT, MARKED, QUESTIONS
 };
 
 /* Rooms for a table have so many places at most. */
 enum { MOST_LINES = 400 };
 
-/* The call, run, length, size, column, number of runs or place that is asked for, and for PLACE and SET_AT the columns m. */
+/* The call, run, length, size, column, number of runs or place that is asked for, for PLACE and SET_AT the columns m, and for MARKED
+ * whether the table is relative, and the marks. */
 typedef struct {
     int kind;
     unsigned long number, columns;
     Columns set;
     long rooms[3];
     const Input *other;
+    unsigned long relative;
+    byte marks[260];
+    long marked;
 } Question;
 
 /* The refusal's number, 0 where there is none, and its places; the numbers of the answer, those of a refusal included; a room that

@@ -7,7 +7,7 @@ void exit(int status);
  * each told by one more than its number. */
 typedef struct {
     const char *name;
-    int of_held[6], of_plan[9];
+    int of_held[6], of_plan[11];
 } Kind;
 
 static const Kind kinds[QUESTIONS] = {
@@ -15,7 +15,7 @@ static const Kind kinds[QUESTIONS] = {
     [WORD] = { "a word", { 10, 8 }, { 0 } },
     [SET_WORD] = { "the word of a set", { 10, 6, 8 }, { 0 } },
     [ABSOLUTE] = { "the absolute table", { 10, 6, 7 }, { 0 } },
-    [RELATIVE] = { "the relative table", { 10, 6, 7 }, { 0 } },
+    [RELATIVE] = { "the relative table", { 10, 6, 16, 7 }, { 0 } },
     [GENERALIZED] = { "generalized resolution", { 10, 11 }, { 0 } },
     [WORDS] = { "the words", { 10 }, { 1, 2, 3, 4, 5 } },
     [ROW_SUMS] = { "row sums", { 10 }, { 1, 2, 3, 4, 5 } },
@@ -29,11 +29,12 @@ static const Kind kinds[QUESTIONS] = {
     [DIAGONAL] = { "E_j", { 0 }, { 1, 2, 3 } },
     [PLACE] = { "the place of a set", { 0 }, { 1, 6, 8 } },
     [SET_AT] = { "the set at a place", { 0 }, { 1, 6, 8 } },
+    [MARKED] = { "a table of marked runs", { 0 }, { 1, 2, 3, 4, 5, 8, 10, 6, 16, 7 } },
 };
 
 enum { DIFFERENCES = 5 };
 
-static long asked[QUESTIONS][2], met[QUESTIONS][2][16];
+static long asked[QUESTIONS][2], met[QUESTIONS][2][17];
 static long cases, with_calls, refused_openings, calls, refused_calls, differences;
 
 void note_case(const Input *input, int refused)

@@ -7,7 +7,7 @@
 
 int printf(const char *format, ...);
 
-enum { COLUMNS = 24, RUNS = 256, ROOM = 1 << 18 };
+enum { COLUMNS = 24, RUNS = 256, ROOM = 1 << 19 };
 
 static uint8_t levels[COLUMNS], table[RUNS * COLUMNS];
 static uint8_t room[ROOM] __attribute__((aligned(16)));
@@ -16,6 +16,7 @@ static uint8_t text[2 * (RUNS + 1) * COLUMNS], written[18504];
 static const size_t lost[2] = { 5, 10 };
 static size_t numbers[RUNS], others[COLUMNS - 1];
 static uint8_t told[144000];
+static uint64_t nums[10626], dens[10626], counts[10626];
 static int64_t answer;
 
 /* Column i is the parity of the bits that the run's number and i + 1 share. */
@@ -60,6 +61,11 @@ static void ask_tell(void)
     answer = crumb_tell(levels, COLUMNS, table, sizeof table, 0, 0, 0, others, COLUMNS - 1, told, sizeof told);
 }
 
+static void ask_table(void)
+{
+    answer = crumb_table(levels, COLUMNS, table, sizeof table, 0, 0, 3, 1, nums, 10626, dens, 10626, counts, 10626);
+}
+
 /* Calls `work` with the end of the room as its stack. */
 static void on_painted_stack(void (*work)(void))
 {
@@ -87,6 +93,7 @@ static const struct { const char *name; void (*work)(void); long limit; } calls[
     { "crumb_write", ask_write, 32768 },
     { "crumb_rewrite", ask_rewrite, 65536 },
     { "crumb_tell", ask_tell, 196608 },
+    { "crumb_table", ask_table, 425984 },
 };
 
 int main(void)

@@ -130,6 +130,16 @@ static void draw_rooms(Question *q)
         q->rooms[k] = narrow ? (long)draw(6) : MOST_LINES - (long)draw(3);
 }
 
+/* No marks, one for each run, none of them standing, or one too many or too few. */
+static void draw_marks(Question *q, unsigned long runs)
+{
+    unsigned long kind = draw(12);
+    long marks = runs > 256 ? 256 : (long)runs;
+    q->marked = kind < 4 ? 0 : kind == 4 ? marks + 1 : kind == 5 && marks > 0 ? marks - 1 : marks;
+    for (long f = 0; f < q->marked; f++)
+        q->marks[f] = kind == 6 ? 0 : draw(8) ? (byte)(1 + draw(255)) : 0;
+}
+
 static Question draw_question(int kind, const Case *c, const Input *other)
 {
     const Input *x = &c->input;
@@ -143,6 +153,12 @@ static Question draw_question(int kind, const Case *c, const Input *other)
     case RELATIVE:
         q.number = draw_size(x);
         draw_rooms(&q);
+        break;
+    case MARKED:
+        q.number = draw_size(x);
+        q.relative = draw(2) ? draw_number(3) : 0;
+        draw_rooms(&q);
+        draw_marks(&q, runs);
         break;
     case ROW_SUMS: q.number = draw(12) ? draw(runs < 254 ? runs + 2 : 256) : draw(256); break;
     case FIGURE: q.number = draw_number(columns + 1); break;

@@ -5,12 +5,11 @@ use asked_held::history::led;
 use held::Held;
 use set_words::SetWordAnswer;
 ghost use mathlib.Core.Path.{_≡_};
+ghost use mathlib.Core.Bool.{true, false};
 ghost use Rattle.rules.specs.Plan.{plan};
 ghost use Rattle.projection_tables.specs.Tables.{rooms};
 ghost use Rattle.held_questions.specs.Answers.{
   heldSetWord,
-  heldAbsolute,
-  heldRelative,
   heldTable,
   heldRooms,
   heldResolution,
@@ -58,12 +57,12 @@ pub extern "C" fn asked_held_absolute(
     lines: &mut usize,
 ) -> u64
     ensures refused { λ r. ⌜ (let h = led (plan (now (levels .entry)) (now (table .entry))) (now (history .entry)) in
-        r ≡ heldTable h f (heldAbsolute h f) (rooms (now (nums .entry)) (now (dens .entry)) (now (counts .entry))) .answer .refused .number) ⌝ }
+        r ≡ heldTable h false f (rooms (now (nums .entry)) (now (dens .entry)) (now (counts .entry))) .answer .refused .number) ⌝ }
     ensures lines { λ _. ⌜ (let h = led (plan (now (levels .entry)) (now (table .entry))) (now (history .entry)) in
-        now (lines .exit) ≡ heldTable h f (heldAbsolute h f) (rooms (now (nums .entry)) (now (dens .entry)) (now (counts .entry))) .answer .lines) ⌝ }
+        now (lines .exit) ≡ heldTable h false f (rooms (now (nums .entry)) (now (dens .entry)) (now (counts .entry))) .answer .lines) ⌝ }
     ensures rooms { λ _. ⌜ (let h = led (plan (now (levels .entry)) (now (table .entry))) (now (history .entry)) in
         rooms (now (nums .exit)) (now (dens .exit)) (now (counts .exit)) ≡
-        heldRooms h f (heldAbsolute h f) (rooms (now (nums .entry)) (now (dens .entry)) (now (counts .entry)))) ⌝ }
+        heldRooms h false f (rooms (now (nums .entry)) (now (dens .entry)) (now (counts .entry)))) ⌝ }
 {
     let held: Held = led(levels, table, history);
     let asked = held_questions::tables::absolute_table(held, f, nums, dens, counts);
@@ -85,12 +84,12 @@ pub extern "C" fn asked_held_relative(
     lines: &mut usize,
 ) -> u64
     ensures refused { λ r. ⌜ (let h = led (plan (now (levels .entry)) (now (table .entry))) (now (history .entry)) in
-        r ≡ heldTable h f (heldRelative h f) (rooms (now (nums .entry)) (now (dens .entry)) (now (counts .entry))) .answer .refused .number) ⌝ }
+        r ≡ heldTable h true f (rooms (now (nums .entry)) (now (dens .entry)) (now (counts .entry))) .answer .refused .number) ⌝ }
     ensures lines { λ _. ⌜ (let h = led (plan (now (levels .entry)) (now (table .entry))) (now (history .entry)) in
-        now (lines .exit) ≡ heldTable h f (heldRelative h f) (rooms (now (nums .entry)) (now (dens .entry)) (now (counts .entry))) .answer .lines) ⌝ }
+        now (lines .exit) ≡ heldTable h true f (rooms (now (nums .entry)) (now (dens .entry)) (now (counts .entry))) .answer .lines) ⌝ }
     ensures rooms { λ _. ⌜ (let h = led (plan (now (levels .entry)) (now (table .entry))) (now (history .entry)) in
         rooms (now (nums .exit)) (now (dens .exit)) (now (counts .exit)) ≡
-        heldRooms h f (heldRelative h f) (rooms (now (nums .entry)) (now (dens .entry)) (now (counts .entry)))) ⌝ }
+        heldRooms h true f (rooms (now (nums .entry)) (now (dens .entry)) (now (counts .entry)))) ⌝ }
 {
     let held: Held = led(levels, table, history);
     let asked = held_questions::tables::relative_table(held, f, nums, dens, counts);

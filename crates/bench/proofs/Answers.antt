@@ -1,18 +1,18 @@
--- What the exports hand over fits: a refusal's number is at most 14, a table has no more lines than its rooms, and thousandths are few.
+-- What the exports hand over fits: a refusal's number is at most 16, and thousandths are few.
 use Rattle.exact.proofs.Ground.{true, false, Bool, cond, List, [], _∷_, List·Memᴰ, List·Memᴰ·head, List·Memᴰ·tail, Memᴰ·append-left}
 use Rattle.exact.proofs.Ground.{Memᴰ·append-right, _≡_, _∙_, sym, ap, refl, ℕ, _≤_, _<_, suc, zero, _^_, arith, T, length, eqb-true, ltb-false}
 use Rattle.exact.proofs.Ground.{not-false}
 use Rattle.exact.proofs.Numbers.{length-from}
 use Rattle.rules.specs.declared.Refusal.{Refusal}
 use Rattle.rules.specs.Plan.{Plan, columns, level, entry, everyRun, everyColumn}
-use Rattle.rules.specs.Refusals.{Check, refusal, refuses, largestNumber, planChecks, ofPlan, badRoom, badLength, badSize, badSet}
+use Rattle.rules.specs.Refusals.{Check, refusal, refuses, largestNumber, planChecks, ofPlan, badLength, badSize, badSet}
 use Rattle.rules.proofs.Order.{known, number-most, passed-none, none-passed}
 use Rattle.plan.proofs.Checks.{passed-good}
 use Rattle.words.specs.Answers.{wordAnswer}
 use Rattle.set_words.specs.declared.SetWordAnswer.{SetWordAnswer}
 use Rattle.set_words.specs.SetWords.{setWordAnswer}
 use Rattle.projection_tables.specs.declared.TableAnswer.{TableAnswer}
-use Rattle.projection_tables.specs.Tables.{Line, Rooms, shortest, tableRefusal, tableAnswer}
+use Rattle.projection_tables.specs.Tables.{Rooms, tableChecks, tableAnswer}
 use Rattle.resolution.specs.declared.GeneralizedAnswer.{GeneralizedAnswer}
 use Rattle.resolution.specs.Resolution.{resolutionIn, ratioIn, resolutionChecks, thousandthsOf, generalizedAnswer}
 use Rattle.resolution.proofs.Resolved.{resolution-is}
@@ -50,23 +50,10 @@ word-number h j e = rw e (number-most (ofStanding h (badLength (columns (planIn 
 
 -- ---- a table
 
-module _ (p : Plan) (f : ℕ) (ls : List Line) (R : Rooms) {a : TableAnswer} (e : a ≡ tableAnswer (ofPlan p) (columns p) f ls R) where
-  pub table-number : a .refused .number ≤ largestNumber
-  unfolding tableAnswer
-  table-number = rw e (number-most (tableRefusal (ofPlan p) (columns p) f ls R))
-
-  pub lines-within : a .lines ≤ length (R .nums)
-  unfolding tableAnswer
-  lines-within = rw e (go (refuses (refusal (tableRefusal (ofPlan p) (columns p) f ls R))) refl)
-    where
-      room : List·Memᴰ (badRoom (length ls) (shortest R)) (tableRefusal (ofPlan p) (columns p) f ls R)
-      room = Memᴰ·append-right (planChecks p) (List·Memᴰ·tail (List·Memᴰ·head refl))
-
-      go : (b : Bool) → refuses (refusal (tableRefusal (ofPlan p) (columns p) f ls R)) ≡ b → cond b 0 (length ls) ≤ length (R .nums)
-      go true q = omega arith
-      go false q =
-          let fits = ltb-false (shortest R) (length ls) (passes (tableRefusal (ofPlan p) (columns p) f ls R) tt q _ room) in
-          omega arith
+pub table-number : (p : Plan) (relative : Bool) (f : ℕ) (R : Rooms) {a : TableAnswer} → a ≡ tableAnswer p (everyRun p) (ofPlan p) relative f R →
+    a .refused .number ≤ largestNumber
+unfolding tableAnswer
+table-number p relative f R e = rw e (number-most (ofPlan p (tableChecks p (everyRun p) relative f R)))
 
 -- ---- generalized resolution
 

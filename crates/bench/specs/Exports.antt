@@ -7,7 +7,7 @@ use Rattle.rules.specs.Plan.{Plan, columns, level, entry, everyColumn, everyRun
 use Rattle.rules.specs.Refusals.{refusal, numberOr, ofPlan, badSize}
 use Rattle.words.specs.Words.{word}
 use Rattle.set_words.specs.SetWords.{setWordAnswer}
-use Rattle.projection_tables.specs.Tables.{Rooms, tableIn, tableAnswer}
+use Rattle.projection_tables.specs.Tables.{Rooms, tableAnswer}
 use Rattle.resolution.specs.Resolution.{generalizedAnswer}
 use Rattle.held.specs.declared.Held.{Held}
 use Rattle.held.specs.Held.{openAnswer, strikes, reinstates, callAnswer}
@@ -31,7 +31,7 @@ strikesNumber p j k =
 -- the number of lines of the table for size f
 unfoldable pub tableNumber : Bool → Plan → ℕ → Rooms → ℤ
 tableNumber relative p f rooms =
-    let answer = tableAnswer (ofPlan p) (columns p) f (tableIn relative p (everyRun p) f) rooms in
+    let answer = tableAnswer p (everyRun p) (ofPlan p) relative f rooms in
     numberOr (answer .refused) (pos (answer .lines))
 
 -- generalized resolution in thousandths

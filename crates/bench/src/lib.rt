@@ -17,7 +17,7 @@ ghost use Rattle.plan.specs.Good.{Sound};
 ghost use Rattle.words.specs.Words.{wordOf, word};
 ghost use Rattle.parts.specs.Parts.{counted};
 ghost use Rattle.set_words.specs.Given.{Projection, SizeOf};
-ghost use Rattle.projection_tables.specs.Tables.{rooms, tableIn, tableRooms};
+ghost use Rattle.projection_tables.specs.Tables.{rooms, tableRooms};
 ghost use Rattle.held.specs.Held.{IsHeld};
 ghost use Rattle.bench.specs.Exports.{rounds, strikesNumber, tableNumber, ratioNumber, setWordNumber, setWordsNumber};
 
@@ -70,7 +70,7 @@ pub extern "C" fn bench_table(
     ensures rooms { λ _. ⌜ (let p = plan (now (levels .entry)) (now (table .entry)) in
         let R = rooms (now (nums .entry)) (now (dens .entry)) (now (counts .entry)) in
         rooms (now (nums .exit)) (now (dens .exit)) (now (counts .exit)) ≡
-        tableRooms (ofPlan p) (columns p) f (tableIn relative p (everyRun p) f) R) ⌝ }
+        tableRooms p (everyRun p) (ofPlan p) relative f R) ⌝ }
 {
     let answer = projection_tables::frequencies(
         levels,

@@ -1,13 +1,14 @@
-// The arguments of a program: runs and columns, by number.
+// The arguments of a program: runs and columns, by number, and words.
 ghost use mathlib.Core.Path.{_≡_};
+ghost use Prim.Native.Nat.{_≤_};
+ghost use lib.ListN.{length};
 ghost use Rattle.io.specs.Counts.{Counts};
+ghost use Rattle.rules.specs.Plan.{mostRuns};
 ghost use Rattle.console.specs.Arguments.{numberNamed};
 
 const ZERO: u8 = 48;
 
 const NINE: u8 = 57;
-
-const DASH: u8 = 45;
 
 // No plan has so many runs or columns.
 const NO_NUMBER: usize = 1000;
@@ -81,7 +82,32 @@ pub fn dashes() -> usize {
 }
 
 fn is_dashes(argument: usize) -> bool {
+    is_word(argument, b"--")
+}
+
+// Whether the argument is this word of eight bytes at most.
+pub fn is_word(argument: usize, word: &[u8]) -> bool {
     let mut bytes = [0u8; 8];
     let size = os::arg(argument, &mut bytes);
-    size == 2 && bytes[0] == DASH && bytes[1] == DASH
+    if size != word.len() {
+        return false;
+    }
+    for i in 0..size {
+        if bytes[i] != word[i] {
+            return false;
+        }
+    }
+    true
+}
+
+// The runs named behind the argument at this place, into a room for as many as a plan has runs: more than these are refused by then.
+pub fn lost_runs(dashes: usize, runs: &mut [usize]) -> usize
+    requires { ⌜ mostRuns ≤ length (now runs) ⌝ }
+    ensures { λ r. ⌜ Counts r (now (runs .exit)) ⌝ }
+{
+    let arguments = os::arg_count();
+    if arguments <= dashes {
+        return 0;
+    }
+    numbers_at(dashes + 1, arguments, runs)
 }

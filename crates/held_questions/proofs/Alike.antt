@@ -17,7 +17,7 @@ use Rattle.words.specs.Words.{wordOf, word}
 use Rattle.words.specs.Answers.{byLength, zeros, wordList, rowList, rowsByRun, wordsAnswer, wordAnswer, rowSumsAnswer}
 use Rattle.counts.specs.Counts.{strength, strengthAnswer}
 use Rattle.set_words.specs.SetWords.{relativeOf, setWordAnswer}
-use Rattle.projection_tables.specs.Tables.{Line, Rooms, absoluteTable, relativeTable, tableAnswer, tableRooms}
+use Rattle.projection_tables.specs.Tables.{Rooms, tableIn, tableAnswer, tableRooms}
 use Rattle.set_words.specs.declared.SetWordAnswer.{SetWordAnswer}
 use Rattle.resolution.specs.Resolution.{greatest, resolution, largestRatio, resolutionAnswer, generalizedAnswer}
 use Rattle.resolution.specs.Charts.{chartOf, chartAnswer, columnRatio, figureAnswer}
@@ -42,8 +42,6 @@ use Rattle.held_questions.specs.Answers.{
   heldFigure,
   heldSetWord,
   heldTell,
-  heldAbsolute,
-  heldRelative,
   heldTable,
   heldRooms,
   heldComparison,
@@ -105,6 +103,10 @@ module _ (levels t u rs : List ℕ) (a : SameShown levels t u rs) where
 
   ratio-shown : largestRatio (level p) (entry p) rs (everyColumn p) ≡ largestRatio (level q) (entry q) rs (everyColumn q)
   ratio-shown = ratio-seen (level p) (entry p) (entry q) rs (everyColumn p) a
+
+  table-shown : (relative : Bool) (f : ℕ) → tableIn relative p rs f ≡ tableIn relative q rs f
+  table-shown true f = relative-seen (level p) (entry p) (entry q) rs (everyColumn p) a f
+  table-shown false f = absolute-seen (level p) (entry p) (entry q) rs (everyColumn p) a f
 
   column-shown : (i : ℕ) → columnRatio p rs i ≡ columnRatio q rs i
   unfolding columnRatio
@@ -250,32 +252,15 @@ module _ {h k : Held} (A : Alike h k) where
   alike-turns n = alike-answer A (λ p rs. turnsAnswer p rs (ofHeld rs) n) (λ levels t u rs a. rw (turns-shown n levels t u rs a))
 
   -- the tables and their rooms
-  absolute-same : (f : ℕ) → heldAbsolute h f ≡ heldAbsolute k f
-  absolute-same f =
-      alike-answer A (λ p rs. absoluteTable (level p) (entry p) rs (everyColumn p) f)
-      (λ levels t u rs a. absolute-seen (level (plan levels t)) (entry (plan levels t)) (entry (plan levels u)) rs (from 0 (length levels)) a f)
-
-  relative-same : (f : ℕ) → heldRelative h f ≡ heldRelative k f
-  relative-same f =
-      alike-answer A (λ p rs. relativeTable (level p) (entry p) rs (everyColumn p) f)
-      (λ levels t u rs a. relative-seen (level (plan levels t)) (entry (plan levels t)) (entry (plan levels u)) rs (from 0 (length levels)) a f)
-
-  module _ (f : ℕ) (R : Rooms) where
-    table-same : (ls ms : List Line) → ls ≡ ms → (heldTable h f ls R .answer ≡ heldTable k f ms R .answer) × (heldRooms h f ls R ≡ heldRooms k f ms R)
-    unfolding heldTable
-    table-same ls ms e =
-        rw e (
-          alike-answer A (λ p rs. tableAnswer (ofHeld rs) (columns p) f ms R) (λ levels t u rs a. refl),
-          alike-answer A (λ p rs. tableRooms (ofHeld rs) (columns p) f ms R) (λ levels t u rs a. refl),
-        )
-
-    pub alike-absolute : (heldTable h f (heldAbsolute h f) R .answer ≡ heldTable k f (heldAbsolute k f) R .answer)
-        × (heldRooms h f (heldAbsolute h f) R ≡ heldRooms k f (heldAbsolute k f) R)
-    alike-absolute = table-same (heldAbsolute h f) (heldAbsolute k f) (absolute-same f)
-
-    pub alike-relative : (heldTable h f (heldRelative h f) R .answer ≡ heldTable k f (heldRelative k f) R .answer)
-        × (heldRooms h f (heldRelative h f) R ≡ heldRooms k f (heldRelative k f) R)
-    alike-relative = table-same (heldRelative h f) (heldRelative k f) (relative-same f)
+  pub alike-table : (relative : Bool) (f : ℕ) (R : Rooms) →
+      (heldTable h relative f R .answer ≡ heldTable k relative f R .answer) × (heldRooms h relative f R ≡ heldRooms k relative f R)
+  unfolding heldTable tableAnswer tableRooms
+  alike-table relative f R = (
+    alike-answer A (λ p rs. tableAnswer p rs (ofHeld rs) relative f R)
+        (λ levels t u rs a. rw (resolution-shown levels t u rs a, table-shown levels t u rs a relative f)),
+    alike-answer A (λ p rs. tableRooms p rs (ofHeld rs) relative f R)
+        (λ levels t u rs a. rw (resolution-shown levels t u rs a, table-shown levels t u rs a relative f)),
+  )
 
 -- the comparison with a third, on either side
 module _ {h k : Held} (A : Alike h k) (o : Held) where
@@ -305,8 +290,7 @@ same-answers A = record {
   figure = alike-figure A;
   set-word = alike-set-word A;
   tell = alike-tell A;
-  absolute = alike-absolute A;
-  relative = alike-relative A;
+  table = alike-table A;
   comparison = alike-comparison A;
   other = alike-other A;
   advice = alike-advice A;

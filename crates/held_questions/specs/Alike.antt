@@ -1,5 +1,6 @@
 -- Document 01, "The held plan": plans that differ only in entries of struck runs, and that their answers are the same.
 use mathlib.Core.Path.{_≡_}
+use mathlib.Core.Bool.{Bool}
 use mathlib.Core.List.{List, [], _∷_, List·Memᴰ}
 use Prim.Native.Nat.{ℕ, _<_}
 use lib.ListN.{length}
@@ -19,8 +20,6 @@ use Rattle.held_questions.specs.Answers.{
   heldFigure,
   heldSetWord,
   heldTell,
-  heldAbsolute,
-  heldRelative,
   heldTable,
   heldRooms,
   heldComparison,
@@ -64,10 +63,8 @@ pub record SameAnswers (h k : Held) : Type 0 where
   pub set-word : (f : ℕ) (I : List ℕ) → heldSetWord h f I .answer ≡ heldSetWord k f I .answer
   pub tell : (i : ℕ) (J : List ℕ) → heldTell h i J .answer ≡ heldTell k i J .answer
   -- a table's answer, and the three rooms afterwards
-  pub absolute : (f : ℕ) (R : Rooms) → (heldTable h f (heldAbsolute h f) R .answer ≡ heldTable k f (heldAbsolute k f) R .answer)
-      × (heldRooms h f (heldAbsolute h f) R ≡ heldRooms k f (heldAbsolute k f) R)
-  pub relative : (f : ℕ) (R : Rooms) → (heldTable h f (heldRelative h f) R .answer ≡ heldTable k f (heldRelative k f) R .answer)
-      × (heldRooms h f (heldRelative h f) R ≡ heldRooms k f (heldRelative k f) R)
+  pub table : (relative : Bool) (f : ℕ) (R : Rooms) →
+      (heldTable h relative f R .answer ≡ heldTable k relative f R .answer) × (heldRooms h relative f R ≡ heldRooms k relative f R)
   -- the comparison with a third, on either side
   pub comparison : (o : Held) → heldComparison h o .answer ≡ heldComparison k o .answer
   pub other : (o : Held) → heldComparison o h .answer ≡ heldComparison o k .answer

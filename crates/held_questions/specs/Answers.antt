@@ -1,11 +1,11 @@
 -- Document 01, "The held plan": every answer is that of the standing runs; the plan comes back as it was.
+use mathlib.Core.Bool.{Bool}
 use mathlib.Core.List.{List}
 use Prim.Native.Nat.{ℕ}
-use Rattle.rules.specs.Plan.{columns, level, entry, everyColumn}
 use Rattle.words.specs.Answers.{wordsAnswer, wordAnswer, rowSumsAnswer}
 use Rattle.counts.specs.Counts.{strengthAnswer}
 use Rattle.set_words.specs.SetWords.{setWordAnswer}
-use Rattle.projection_tables.specs.Tables.{Line, Rooms, absoluteTable, relativeTable, tableAnswer, tableRooms}
+use Rattle.projection_tables.specs.Tables.{Rooms, tableAnswer, tableRooms}
 use Rattle.resolution.specs.Resolution.{resolutionAnswer, generalizedAnswer}
 use Rattle.resolution.specs.Charts.{chartAnswer, figureAnswer}
 use Rattle.tell.specs.Answer.{tellAnswer}
@@ -60,17 +60,11 @@ heldSetWord h f I = record { held = h; answer = setWordAnswer (planIn h) (standi
 
 -- ---- the tables, and the three rooms afterwards
 
-abbrev pub heldAbsolute : Held → ℕ → List Line
-heldAbsolute h f = absoluteTable (level (planIn h)) (entry (planIn h)) (standingIn h) (everyColumn (planIn h)) f
+unfoldable pub heldTable : Held → Bool → ℕ → Rooms → HeldTable
+heldTable h relative f rooms = record { held = h; answer = tableAnswer (planIn h) (standingIn h) (ofStanding h) relative f rooms }
 
-abbrev pub heldRelative : Held → ℕ → List Line
-heldRelative h f = relativeTable (level (planIn h)) (entry (planIn h)) (standingIn h) (everyColumn (planIn h)) f
-
-unfoldable pub heldTable : Held → ℕ → List Line → Rooms → HeldTable
-heldTable h f lines rooms = record { held = h; answer = tableAnswer (ofStanding h) (columns (planIn h)) f lines rooms }
-
-abbrev pub heldRooms : Held → ℕ → List Line → Rooms → Rooms
-heldRooms h f lines rooms = tableRooms (ofStanding h) (columns (planIn h)) f lines rooms
+abbrev pub heldRooms : Held → Bool → ℕ → Rooms → Rooms
+heldRooms h relative f rooms = tableRooms (planIn h) (standingIn h) (ofStanding h) relative f rooms
 
 -- ---- the comparison of two held plans
 

@@ -7,9 +7,10 @@ use projection_tables::routines::table_answer;
 use set_words::Engine;
 use set_words::routines::set_word_answer;
 ghost use mathlib.Core.Path.{_≡_};
-ghost use Rattle.projection_tables.specs.Tables.{rooms, tableIn};
-ghost use Rattle.held.specs.Held.{IsHeld, planIn, standingIn};
-ghost use Rattle.held_questions.specs.Answers.{heldSetWord, heldAbsolute, heldRelative, heldTable, heldRooms};
+ghost use mathlib.Core.Bool.{true, false};
+ghost use Rattle.projection_tables.specs.Tables.{rooms};
+ghost use Rattle.held.specs.Held.{IsHeld};
+ghost use Rattle.held_questions.specs.Answers.{heldSetWord, heldTable, heldRooms};
 
 // W(I) of a set of f columns.
 pub fn set_word(held: Held, f: usize, set: &[usize]) -> HeldSetWord
@@ -45,16 +46,15 @@ fn frequencies(
     counts: &mut [u64],
 ) -> HeldTable
     requires { ⌜ IsHeld held ⌝ }
-    ensures answer { λ r. ⌜ r ≡ heldTable held f (tableIn relative (planIn held) (standingIn held) f)
-        (rooms (now (nums .entry)) (now (dens .entry)) (now (counts .entry))) ⌝ }
+    ensures answer { λ r. ⌜ r ≡ heldTable held relative f (rooms (now (nums .entry)) (now (dens .entry)) (now (counts .entry))) ⌝ }
     ensures rooms { λ _. ⌜ rooms (now (nums .exit)) (now (dens .exit)) (now (counts .exit)) ≡
-        heldRooms held f (tableIn relative (planIn held) (standingIn held) f)
-        (rooms (now (nums .entry)) (now (dens .entry)) (now (counts .entry))) ⌝ }
+        heldRooms held relative f (rooms (now (nums .entry)) (now (dens .entry)) (now (counts .entry))) ⌝ }
 {
     let columns = held.columns;
     let size = held.runs * columns;
     let levels = held.levels;
     let entries = held.entries;
+    let words = held.words;
     let standing = standing_runs(held);
     let runs = standing.runs;
     let count = standing.count;
@@ -63,6 +63,7 @@ fn frequencies(
         &levels[..columns],
         &entries[..size],
         &runs[..count],
+        &words,
         f,
         relative,
         nums,
@@ -81,16 +82,14 @@ pub fn absolute_table(
     counts: &mut [u64],
 ) -> HeldTable
     requires { ⌜ IsHeld held ⌝ }
-    ensures answer { λ r. ⌜ r ≡ heldTable held f (heldAbsolute held f)
-        (rooms (now (nums .entry)) (now (dens .entry)) (now (counts .entry))) ⌝ }
+    ensures answer { λ r. ⌜ r ≡ heldTable held false f (rooms (now (nums .entry)) (now (dens .entry)) (now (counts .entry))) ⌝ }
     ensures rooms { λ _. ⌜ rooms (now (nums .exit)) (now (dens .exit)) (now (counts .exit)) ≡
-        heldRooms held f (heldAbsolute held f)
-        (rooms (now (nums .entry)) (now (dens .entry)) (now (counts .entry))) ⌝ }
+        heldRooms held false f (rooms (now (nums .entry)) (now (dens .entry)) (now (counts .entry))) ⌝ }
 {
     frequencies(held, f, false, nums, dens, counts)
 }
 
-// The same of W(I) / (n²(s - 1)), s being the smallest level in I.
+// The same of W(I) / (n²(s - 1)), s being the smallest level in I; 16 where f is above R.
 pub fn relative_table(
     held: Held,
     f: usize,
@@ -99,11 +98,9 @@ pub fn relative_table(
     counts: &mut [u64],
 ) -> HeldTable
     requires { ⌜ IsHeld held ⌝ }
-    ensures answer { λ r. ⌜ r ≡ heldTable held f (heldRelative held f)
-        (rooms (now (nums .entry)) (now (dens .entry)) (now (counts .entry))) ⌝ }
+    ensures answer { λ r. ⌜ r ≡ heldTable held true f (rooms (now (nums .entry)) (now (dens .entry)) (now (counts .entry))) ⌝ }
     ensures rooms { λ _. ⌜ rooms (now (nums .exit)) (now (dens .exit)) (now (counts .exit)) ≡
-        heldRooms held f (heldRelative held f)
-        (rooms (now (nums .entry)) (now (dens .entry)) (now (counts .entry))) ⌝ }
+        heldRooms held true f (rooms (now (nums .entry)) (now (dens .entry)) (now (counts .entry))) ⌝ }
 {
     frequencies(held, f, true, nums, dens, counts)
 }

@@ -13,6 +13,12 @@ const SPACE: u8 = 32;
 
 const LINE_FEED: u8 = 10;
 
+// The refusal, and the number of bytes put into the room: those of the refusal's line, or of the answer's lines.
+pub struct Written {
+    pub refused: Refusal,
+    pub bytes: usize,
+}
+
 pub fn write_bytes(bytes: &[u8], room: &mut [u8], at: usize) -> usize
     requires { ⌜ at + length (now bytes) ≤ length (now room) ⌝ }
     ensures { λ r. ⌜ Put (now (bytes .entry)) (length (now (bytes .entry))) at (now (room .entry)) r (now (room .exit)) ⌝ }
@@ -52,6 +58,16 @@ pub fn write_refusal(refused: Refusal, room: &mut [u8]) -> usize
 {
     let numbers = [refused.number, refused.first as u64, refused.second as u64];
     write_line(b"refused", &numbers, room, 0)
+}
+
+// An answer that is the one line of its refusal.
+pub fn write_refused(refused: Refusal, room: &mut [u8]) -> Written
+    requires { ⌜ 71 ≤ length (now room) ⌝ }
+    ensures refused { λ r. ⌜ r .refused ≡ refused ⌝ }
+    ensures bytes { λ r. ⌜ Put (refusalLine refused) 71 0 (now (room .entry)) (r .bytes) (now (room .exit)) ⌝ }
+{
+    let bytes = write_refusal(refused, room);
+    Written { refused, bytes }
 }
 
 // The same for a program that prints a refusal: the number of bytes in front of the room.

@@ -4,9 +4,10 @@ use Rattle.exact.proofs.Ground.{ℕ-discrete, length, take, length-map, length-
 use Rattle.exact.proofs.Rooms.{filled-length, filled-front}
 use Rattle.exact.proofs.Tests.{clash}
 use Rattle.rules.specs.Plan.{Plan, runs, mostRuns}
-use Rattle.rules.specs.Refusals.{Check, refusal, orElse, planChecks, ofHeld}
+use Rattle.rules.specs.declared.Refusal.{Refusal}
+use Rattle.rules.specs.Refusals.{Check, refusal, unless, orElse, planChecks, ofHeld}
 use Rattle.rules.proofs.Order.{inTurn}
-use Rattle.rules.proofs.Ranges.{unless-refused, unless-accepted, or-neither}
+use Rattle.rules.proofs.Ranges.{unless-refused, unless-accepted, or-neither, or-refused}
 use Rattle.plan.specs.Good.{Good, Sound}
 use Rattle.plan.proofs.Checks.{passed-good, good-passed}
 use Rattle.held.specs.declared.Held.{Held}
@@ -100,6 +101,27 @@ module _ (p : Plan) (marks : List ℕ) {s : Standing} (e : s ≡ markedOf p mark
 
     pub front-some : 1 ≤ length (take (s .count) (s .runs))
     front-some = rw marked-front (marked-stand p marks accepts)
+
+  -- ---- what comes back: the routine answers of the runs handed over, behind the refusal handed over
+
+  module _ (checks : List ℕ → List Check) (turn : T (inTurn (planChecks p) (checks (markedRuns p marks)))) where
+    abbrev whole : Refusal
+    whole = refusal (ofMarked p marks (checks (markedRuns p marks)))
+
+    pub front-answer : {A B : Type 0} (make : Refusal → A → B) (blank : A) (value : List ℕ → A) →
+        let q = orElse (s .refused) (refusal (checks (take (s .count) (s .runs)))) in
+        make q (unless q blank (value (take (s .count) (s .runs)))) ≡ make whole (unless whole blank (value (markedRuns p marks)))
+    front-answer make blank value = go (ℕ-discrete (s .refused .number) 0)
+      where
+        go : Dec (s .refused .number ≡ 0) →
+            let q = orElse (s .refused) (refusal (checks (take (s .count) (s .runs)))) in
+            make q (unless q blank (value (take (s .count) (s .runs)))) ≡ make whole (unless whole blank (value (markedRuns p marks)))
+        go (yes z) = rw (marked-front z, marked-handed (checks (markedRuns p marks)) turn)
+        go (no n) =
+            let r = s .refused in
+            let w : whole ≡ r = sym (marked-handed (checks (markedRuns p marks)) turn) ∙ or-refused r (refusal (checks (markedRuns p marks))) n in
+            rw (or-refused r (refusal (checks (take (s .count) (s .runs)))) n, w)
+            (ap (make r) (unless-refused r blank (value (take (s .count) (s .runs))) n ∙ sym (unless-refused r blank (value (markedRuns p marks)) n)))
 
 -- ---- the same as of a held plan: whatever calls were made, where they leave this plan with these runs standing
 

@@ -15,7 +15,7 @@ use Rattle.survey.specs.Survey.{occursAnswer, alikeAnswer}
 use Rattle.words.specs.Answers.{wordsAnswer, wordAnswer, rowSumsAnswer, diagonalAnswer}
 use Rattle.counts.specs.Counts.{strengthAnswer}
 use Rattle.set_words.specs.SetWords.{setWordAnswer}
-use Rattle.projection_tables.specs.Tables.{tableAnswer}
+use Rattle.projection_tables.specs.Tables.{tableChecks, tableAnswer}
 use Rattle.resolution.specs.Resolution.{resolutionAnswer, generalizedAnswer}
 use Rattle.resolution.specs.Charts.{chartAnswer, figureAnswer}
 use Rattle.tell.specs.Answer.{badAsked, tellAnswer}
@@ -72,6 +72,7 @@ use Rattle.planner.specs.Calls.{
   refusal-listed,
   rewritten,
   tell-marked,
+  table-marked,
   placed,
   set-at,
   readChecks,
@@ -152,6 +153,7 @@ call-known (rewritten text lost a b) =
     each-cons (λ c. T (known c)) tt
     (strikes-known (textChecks left a b) (begins-known (of-held left) (roomsOf left a b) tt) (openAnswer (planOf text) .held) lost)
 call-known (tell-marked p marks a J room) = one _ (marked-known p marks (badAsked (columns p) a J ∷ badRoom (length (markedLines p marks a J)) (length room) ∷ []) tt)
+call-known (table-marked p marks relative f rooms) = one _ (marked-known p marks (tableChecks p (markedRuns p marks) relative f rooms) tt)
 call-known (placed m f I) = one _ tt
 call-known (set-at m f k) = one _ tt
 
@@ -228,6 +230,7 @@ call-refusal (rewritten text lost a b) =
     sym (first-in-turn last (readChecks text mostColumns mostEntries) (strikeChecks h lost)
     ∙ ap (orElse (readRefusal text mostColumns mostEntries)) (strikes-in-turn last h lost))
 call-refusal (tell-marked p marks a J room) = refl
+call-refusal (table-marked p marks relative f rooms) = refl
 call-refusal (placed m f I) = refl
 call-refusal (set-at m f k) = refl
 

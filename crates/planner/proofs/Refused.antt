@@ -63,6 +63,7 @@ use Rattle.planner.specs.Calls.{
   refusal-listed,
   rewritten,
   tell-marked,
+  table-marked,
   placed,
   set-at,
   refusedBy,
@@ -110,6 +111,8 @@ refused-blank (refusal-listed text) n = tt
 refused-blank (rewritten text lost a b) n = let r = refusedBy (rewritten text lost a b) in (unless-refused r 0 _ n, unless-refused r 0 _ n)
 refused-blank (tell-marked p marks a J room) n =
     let r = refusedBy (tell-marked p marks a J room) in (unless-refused r 0 _ n, unless-refused r room _ n)
+refused-blank (table-marked p marks relative f rooms) n =
+    let r = refusedBy (table-marked p marks relative f rooms) in (unless-refused r 0 _ n, unless-refused r rooms _ n)
 refused-blank (placed m f I) n = unless-refused (refusedBy (placed m f I)) 0 _ n
 refused-blank (set-at m f k) n = ap (filledTo 4 0) (unless-refused (refusedBy (set-at m f k)) [] _ n)
 

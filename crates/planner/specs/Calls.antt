@@ -12,7 +12,7 @@ use Rattle.survey.specs.Survey.{occursAnswer, alikeAnswer}
 use Rattle.words.specs.Answers.{wordsAnswer, wordAnswer, rowSumsAnswer, diagonalAnswer}
 use Rattle.counts.specs.Counts.{strengthAnswer}
 use Rattle.set_words.specs.SetWords.{setWordChecks, setWordAnswer}
-use Rattle.projection_tables.specs.Tables.{Rooms, tableIn, tableChecks, tableAnswer}
+use Rattle.projection_tables.specs.Tables.{Rooms, tableChecks, tableAnswer}
 use Rattle.resolution.specs.Resolution.{resolutionChecks, resolutionAnswer, generalizedAnswer}
 use Rattle.resolution.specs.Charts.{columnChecks, chartAnswer, figureAnswer}
 use Rattle.tell.specs.Answer.{tellChecks, tellAnswer}
@@ -26,6 +26,7 @@ use Rattle.text.specs.Reader.{roomChecks, readAnswer}
 use Rattle.writer.specs.Writer.{badTextRoom, writeAnswer}
 use Rattle.standing_text.specs.StandingText.{textIn, heldText, leftOf, rewriteAnswer}
 use Rattle.listing_lines.specs.Listing.{listingChecks, listing, listingAnswer}
+use Rattle.marked.specs.Marked.{markedRuns, ofMarked}
 use Rattle.tell_marked.specs.TellMarked.{markedChecks, markedWritten}
 
 -- ---- questions
@@ -68,7 +69,7 @@ own p rs (figure i) = columnChecks p rs i
 own p rs (turns k) = turnsChecks k rs
 own p rs (set-word f I) = setWordChecks p f I
 own p rs (tell i J) = tellChecks p i J
-own p rs (table relative f rooms) = tableChecks (columns p) f (tableIn relative p rs f) rooms
+own p rs (table relative f rooms) = tableChecks p rs relative f rooms
 
 -- the refusal in its answer
 abbrev pub answered : Plan → List ℕ → (List Check → List Check) → Question → Refusal
@@ -84,7 +85,7 @@ answered p rs start (figure i) = figureAnswer p rs start i .refused
 answered p rs start (turns k) = turnsAnswer p rs start k .refused
 answered p rs start (set-word f I) = setWordAnswer p rs start f I .refused
 answered p rs start (tell i J) = tellAnswer p rs start i J .refused
-answered p rs start (table relative f rooms) = tableAnswer start (columns p) f (tableIn relative p rs f) rooms .refused
+answered p rs start (table relative f rooms) = tableAnswer p rs start relative f rooms .refused
 
 -- ---- calls
 
@@ -107,6 +108,7 @@ pub data Call : Type 0 where
   rewritten : List ℕ → List ℕ → ℕ → ℕ → Call
   -- of a plan with a mark for each run
   tell-marked : Plan → List ℕ → ℕ → List ℕ → List ℕ → Call
+  table-marked : Plan → List ℕ → Bool → ℕ → Rooms → Call
   -- of sets of columns
   placed : ℕ → ℕ → List ℕ → Call
   set-at : ℕ → ℕ → ℕ → Call
@@ -146,6 +148,7 @@ checksOf (refusal-listed text) = listingChecks text ∷ []
 checksOf (rewritten text lost a b) =
     readChecks text mostColumns mostEntries ∷ strikeChecks (openAnswer (planOf text) .held) lost ++ textChecks (leftOf text lost .held) a b ∷ []
 checksOf (tell-marked p marks a J room) = markedChecks p marks a J room ∷ []
+checksOf (table-marked p marks relative f rooms) = ofMarked p marks (tableChecks p (markedRuns p marks) relative f rooms) ∷ []
 checksOf (placed m f I) = placeChecks m f I ∷ []
 checksOf (set-at m f k) = setChecks m f k ∷ []
 
@@ -167,6 +170,7 @@ refusedBy (listed text room) = listingAnswer text room .refused
 refusedBy (refusal-listed text) = refusal (listingChecks text)
 refusedBy (rewritten text lost a b) = rewriteAnswer text lost a b .refused
 refusedBy (tell-marked p marks a J room) = markedWritten p marks a J room .refused
+refusedBy (table-marked p marks relative f rooms) = tableAnswer p (markedRuns p marks) (ofMarked p marks) relative f rooms .refused
 refusedBy (placed m f I) = placeAnswer m f I .refused
 refusedBy (set-at m f k) = setAnswer m f k .refused
 

@@ -14,7 +14,7 @@ use Rattle.survey.specs.Survey.{occursAnswer, alikeAnswer}
 use Rattle.words.specs.Answers.{zeros, wordsAnswer, wordAnswer, rowSumsAnswer, diagonalAnswer}
 use Rattle.counts.specs.Counts.{strengthAnswer}
 use Rattle.set_words.specs.SetWords.{setWordAnswer}
-use Rattle.projection_tables.specs.Tables.{tableIn, tableAnswer, tableRooms}
+use Rattle.projection_tables.specs.Tables.{tableAnswer, tableRooms}
 use Rattle.resolution.specs.Resolution.{resolutionAnswer, generalizedAnswer}
 use Rattle.resolution.specs.Charts.{zeroChart, figureSays, chartAnswer, figureAnswer}
 use Rattle.tell.specs.Answer.{zeroJoins, tellAnswer}
@@ -25,6 +25,7 @@ use Rattle.text.specs.Reader.{readAnswer}
 use Rattle.writer.specs.Writer.{writeAnswer}
 use Rattle.standing_text.specs.StandingText.{heldText, rewriteAnswer}
 use Rattle.listing_lines.specs.Listing.{listingAnswer, listingRoom}
+use Rattle.marked.specs.Marked.{markedRuns, ofMarked}
 use Rattle.tell_marked.specs.TellMarked.{markedWritten, tellRoom}
 use Rattle.planner.specs.Calls.{
   planAsked,
@@ -61,6 +62,7 @@ use Rattle.planner.specs.Calls.{
   refusal-listed,
   rewritten,
   tell-marked,
+  table-marked,
   placed,
   set-at,
 }
@@ -81,8 +83,7 @@ BlankAnswer p rs start (turns k) = turnsAnswer p rs start k .runs ≡ replicate 
 BlankAnswer p rs start (set-word f I) = setWordAnswer p rs start f I .word ≡ pos 0
 BlankAnswer p rs start (tell i J) = let a = tellAnswer p rs start i J in (a .tells ≡ false) × (a .joins ≡ zeroJoins)
 BlankAnswer p rs start (table relative f rooms) =
-    let lines = tableIn relative p rs f in
-    (tableAnswer start (columns p) f lines rooms .lines ≡ 0) × (tableRooms start (columns p) f lines rooms ≡ rooms)
+    (tableAnswer p rs start relative f rooms .lines ≡ 0) × (tableRooms p rs start relative f rooms ≡ rooms)
 
 -- nor beside that of any call. Three calls answer the refusal alone
 abbrev pub Blank : Call → Type 0
@@ -102,5 +103,6 @@ Blank (listed text room) = (listingAnswer text room .bytes ≡ 0) × (listingRoo
 Blank (refusal-listed text) = Unit {0}
 Blank (rewritten text lost a b) = let t = rewriteAnswer text lost a b in (t .bytes ≡ 0) × (t .runs ≡ 0)
 Blank (tell-marked p marks a J room) = (markedWritten p marks a J room .bytes ≡ 0) × (tellRoom p marks a J room ≡ room)
+Blank (table-marked p marks relative f rooms) = BlankAnswer p (markedRuns p marks) (ofMarked p marks) (table relative f rooms)
 Blank (placed m f I) = placeAnswer m f I .place ≡ 0
 Blank (set-at m f k) = setAnswer m f k .columns ≡ replicate 4 0

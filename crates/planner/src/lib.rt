@@ -1,6 +1,6 @@
 // What a C program links: functions on slices of bytes and of run numbers, and on numbers (include/crumbchorus.h).
 use exact::signed;
-use tell_lines::Written;
+use lines::Written;
 ghost use mathlib.Core.Path.{_≡_};
 ghost use lib.IntN.{pos};
 ghost use lib.ListN.{length};
@@ -12,14 +12,15 @@ ghost use Rattle.writer.specs.Writer.{writeText, writeAnswer};
 ghost use Rattle.standing_text.specs.StandingText.{rewriteAnswer, rewritten, runsLeft};
 ghost use Rattle.listing_lines.specs.Listing.{plannerListing, listingRoom};
 ghost use Rattle.tell_marked.specs.TellMarked.{tellNumber, tellRoom};
-ghost use Rattle.planner.specs.Exports.{version};
+ghost use Rattle.projection_tables.specs.Tables.{rooms};
+ghost use Rattle.planner.specs.Exports.{version, tableNumber, tableFilled};
 
 // The version of this library, as the header writes it.
 #[no_mangle]
 pub extern "C" fn crumb_version() -> u64
     ensures { λ r. ⌜ r ≡ version ⌝ }
 {
-    900
+    1000
 }
 
 // The scaled word of one length, or the refusal number negated.
@@ -84,6 +85,40 @@ pub extern "C" fn crumb_tell(
     );
     let refused = told.refused;
     refused.number_or(signed::of_size(told.bytes))
+}
+
+// The table for size f of the runs that stand: its lines into three lent rooms, for numerators, denominators and counts. The number of
+// lines, or the refusal number negated.
+#[no_mangle]
+pub extern "C" fn crumb_table(
+    levels: &[u8],
+    table: &[u8],
+    standing: &[u8],
+    size: u64,
+    relative: u64,
+    nums: &mut [u64],
+    dens: &mut [u64],
+    counts: &mut [u64],
+) -> i64
+    ensures answer { λ r. ⌜ (let p = plan (now (levels .entry)) (now (table .entry)) in
+        let R = rooms (now (nums .entry)) (now (dens .entry)) (now (counts .entry)) in
+        r ≡ tableNumber p (now (standing .entry)) relative size R) ⌝ }
+    ensures rooms { λ _. ⌜ (let p = plan (now (levels .entry)) (now (table .entry)) in
+        let R = rooms (now (nums .entry)) (now (dens .entry)) (now (counts .entry)) in
+        rooms (now (nums .exit)) (now (dens .exit)) (now (counts .exit)) ≡ tableFilled p (now (standing .entry)) relative size R) ⌝ }
+{
+    let answer = table_marked::table_marked(
+        levels,
+        table,
+        standing,
+        size as usize,
+        relative != 0,
+        nums,
+        dens,
+        counts,
+    );
+    let refused = answer.refused;
+    refused.number_or(signed::of_size(answer.lines))
 }
 
 // The text of a plan without its lost runs, and the original numbers of the runs left, each into its lent room: the number of bytes,

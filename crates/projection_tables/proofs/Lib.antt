@@ -4,4 +4,5 @@ pub mod Lines
 pub mod Walks
 pub mod Unique
 pub mod Answers
+pub mod BelowResolution
 pub mod Figures

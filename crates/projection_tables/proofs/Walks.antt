@@ -42,7 +42,7 @@ filled-at ls R k d h =
     let c = into-at (λ l. l .sets) ls (R .counts) k d h in
     rw (n, m, c)
 
-lines-filled : (ls : List Line) (R : Rooms) → linesIn (roomsFilled ls R) (length ls) ≡ ls
+pub lines-filled : (ls : List Line) (R : Rooms) → linesIn (roomsFilled ls R) (length ls) ≡ ls
 lines-filled ls R =
     let d = line (record { num = 0; den = 0 }) 0 in
     map-cong-in (from 0 (length ls)) (λ k m. filled-at ls R k d (omega (arith, mem-from 0 (length ls) m))) ∙ map-places ls d

@@ -1,10 +1,15 @@
 -- What the routines that fill a table are given.
-use mathlib.Core.Bool.{Bool, not}
+use mathlib.Core.Path.{_≡_}
+use mathlib.Core.Bool.{Bool, true, not}
 use mathlib.Core.List.{List, _∷_, _++_}
 use Prim.Native.Nat.{ℕ, _≤_, _<_, _^_}
+use lib.IntN.{ℤ}
 use lib.ListN.{length, getD, take, drop}
 use Rattle.exact.specs.Fractions.{smallerFraction, isBetter, ShortDenominator}
 use Rattle.exact.specs.declared.fractions.Fraction.{Fraction}
+use Rattle.rules.specs.Plan.{Plan}
+use Rattle.words.specs.Answers.{wordList}
+use Rattle.set_words.specs.Given.{Tabled}
 use Rattle.projection_tables.specs.Tables.{Rooms, fractionAt}
 
 module _ {A : Type 0} where
@@ -35,3 +40,8 @@ pub record Wide (n : ℕ) (R : Rooms) : Type 0 where
   pub nums-wide : n ≤ length (R .nums)
   pub dens-wide : n ≤ length (R .dens)
   pub counts-wide : n ≤ length (R .counts)
+
+-- what a call for a table of some runs is given: they can be counted, and for a relative table their words stand beside them
+pub record Ranked (p : Plan) (rs : List ℕ) (words : List ℤ) (relative : Bool) : Type 0 where
+  pub tabled : Tabled p rs
+  pub of-runs : relative ≡ true → words ≡ wordList p rs

@@ -8,11 +8,12 @@ use Rattle.exact.specs.Fractions.{smallerFraction, isEqual}
 use Rattle.exact.specs.declared.fractions.Fraction.{Fraction}
 use Rattle.exact.specs.declared.fractions.Verdict.{Verdict}
 use Rattle.exact.specs.declared.fractions.Verdict.the-variants.{Better, Worse, Equal}
-use Rattle.rules.specs.Plan.{Plan, level, entry, everyColumn}
+use Rattle.rules.specs.Plan.{Plan, columns, level, entry, everyColumn}
 use Rattle.rules.specs.declared.Refusal.{Refusal}
-use Rattle.rules.specs.Refusals.{Check, refusal, unless, badSize, badRoom}
+use Rattle.rules.specs.Refusals.{Check, refusal, unless, badSize, pastResolution, badRoom}
 use Rattle.sets.specs.Sets.{choose}
 use Rattle.set_words.specs.SetWords.{valueOf, relativeOf}
+use Rattle.resolution.specs.Resolution.{resolutionIn}
 use Rattle.projection_tables.specs.declared.TableAnswer.{TableAnswer}
 
 -- ---- a table: the distinct values, rising, each with its count
@@ -107,12 +108,9 @@ roomsFilled lines rooms = record {
 abbrev pub shortest : Rooms → ℕ
 shortest rooms = min (length (rooms .nums)) (min (length (rooms .dens)) (length (rooms .counts)))
 
--- the checks of a call for the table of size f of m columns: 6, and 7 exactly when the distinct values outnumber the shortest room
-abbrev pub tableChecks : ℕ → ℕ → List Line → Rooms → List Check
-tableChecks m f lines rooms = badSize m f ∷ badRoom (length lines) (shortest rooms) ∷ []
-
-abbrev pub tableRefusal : (List Check → List Check) → ℕ → ℕ → List Line → Rooms → List Check
-tableRefusal start m f lines rooms = start (tableChecks m f lines rooms)
+-- 7, exactly when the distinct values outnumber the shortest room
+abbrev pub badRooms : List Line → Rooms → Check
+badRooms lines rooms = badRoom (length lines) (shortest rooms)
 
 -- the refusal, and beside it the number of lines
 abbrev pub tableBeside : List Line → Refusal → TableAnswer
@@ -122,9 +120,17 @@ tableBeside lines r = record { refused = r; lines = unless r 0 (length lines) }
 abbrev pub roomsBeside : List Line → Rooms → Refusal → Rooms
 roomsBeside lines rooms r = unless r rooms (roomsFilled lines rooms)
 
--- the answer, and the rooms afterwards
-unfoldable pub tableAnswer : (List Check → List Check) → ℕ → ℕ → List Line → Rooms → TableAnswer
-tableAnswer start m f lines rooms = tableBeside lines (refusal (tableRefusal start m f lines rooms))
+-- ---- of some runs of a plan
 
-unfoldable pub tableRooms : (List Check → List Check) → ℕ → ℕ → List Line → Rooms → Rooms
-tableRooms start m f lines rooms = roomsBeside lines rooms (refusal (tableRefusal start m f lines rooms))
+module _ (p : Plan) (rs : List ℕ) where
+  -- the checks of a call for the table of size f: 6, then 16 of a relative table where f is above R, and 7 last
+  abbrev pub tableChecks : Bool → ℕ → Rooms → List Check
+  tableChecks relative f rooms =
+      badSize (columns p) f ∷ pastResolution relative (resolutionIn p rs) f ∷ badRooms (tableIn relative p rs f) rooms ∷ []
+
+  -- the answer, and the rooms afterwards
+  unfoldable pub tableAnswer : (List Check → List Check) → Bool → ℕ → Rooms → TableAnswer
+  tableAnswer start relative f rooms = tableBeside (tableIn relative p rs f) (refusal (start (tableChecks relative f rooms)))
+
+  unfoldable pub tableRooms : (List Check → List Check) → Bool → ℕ → Rooms → Rooms
+  tableRooms start relative f rooms = roomsBeside (tableIn relative p rs f) rooms (refusal (start (tableChecks relative f rooms)))

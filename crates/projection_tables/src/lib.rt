@@ -1,9 +1,11 @@
 // Projection frequency tables (document 01, "Strength, resolution, projections").
 use rules::Refusal;
+use run_words::words_wanted;
 ghost use mathlib.Core.Path.{_≡_};
-ghost use Rattle.rules.specs.Plan.{plan, columns, level, entry, everyRun, everyColumn};
+ghost use mathlib.Core.Bool.{true, false};
+ghost use Rattle.rules.specs.Plan.{plan, everyRun};
 ghost use Rattle.rules.specs.Refusals.{ofPlan};
-ghost use Rattle.projection_tables.specs.Tables.{rooms, tableIn, absoluteTable, relativeTable, tableAnswer, tableRooms};
+ghost use Rattle.projection_tables.specs.Tables.{rooms, tableAnswer, tableRooms};
 
 pub mod routines;
 
@@ -13,7 +15,7 @@ pub struct TableAnswer {
     pub lines: usize,
 }
 
-// The table for size f, absolute or relative, of every run of a plan.
+// The table for size f, absolute or relative, of every run of a plan. A relative table is refused by 16 where f is above R.
 pub fn frequencies(
     levels: &[u8],
     table: &[u8],
@@ -24,22 +26,22 @@ pub fn frequencies(
     counts: &mut [u64],
 ) -> TableAnswer
     ensures answer { λ r. ⌜ (let p = plan (now (levels .entry)) (now (table .entry)) in
-        let ls = tableIn relative p (everyRun p) f in
         let R = rooms (now (nums .entry)) (now (dens .entry)) (now (counts .entry)) in
-        r ≡ tableAnswer (ofPlan p) (columns p) f ls R) ⌝ }
+        r ≡ tableAnswer p (everyRun p) (ofPlan p) relative f R) ⌝ }
     ensures rooms { λ _. ⌜ (let p = plan (now (levels .entry)) (now (table .entry)) in
-        let ls = tableIn relative p (everyRun p) f in
         let R = rooms (now (nums .entry)) (now (dens .entry)) (now (counts .entry)) in
-        rooms (now (nums .exit)) (now (dens .exit)) (now (counts .exit)) ≡ tableRooms (ofPlan p) (columns p) f ls R) ⌝ }
+        rooms (now (nums .exit)) (now (dens .exit)) (now (counts .exit)) ≡ tableRooms p (everyRun p) (ofPlan p) relative f R) ⌝ }
 {
     let checked = plan::routines::checked_runs(levels, table);
     let runs = checked.runs;
     let count = checked.count;
+    let words = words_wanted(relative, checked.refused, levels, table, &runs[..count]);
     routines::table_answer(
         checked.refused,
         levels,
         table,
         &runs[..count],
+        &words,
         f,
         relative,
         nums,
@@ -59,18 +61,16 @@ pub fn absolute(
     counts: &mut [u64],
 ) -> TableAnswer
     ensures answer { λ r. ⌜ (let p = plan (now (levels .entry)) (now (table .entry)) in
-        let ls = absoluteTable (level p) (entry p) (everyRun p) (everyColumn p) f in
         let R = rooms (now (nums .entry)) (now (dens .entry)) (now (counts .entry)) in
-        r ≡ tableAnswer (ofPlan p) (columns p) f ls R) ⌝ }
+        r ≡ tableAnswer p (everyRun p) (ofPlan p) false f R) ⌝ }
     ensures rooms { λ _. ⌜ (let p = plan (now (levels .entry)) (now (table .entry)) in
-        let ls = absoluteTable (level p) (entry p) (everyRun p) (everyColumn p) f in
         let R = rooms (now (nums .entry)) (now (dens .entry)) (now (counts .entry)) in
-        rooms (now (nums .exit)) (now (dens .exit)) (now (counts .exit)) ≡ tableRooms (ofPlan p) (columns p) f ls R) ⌝ }
+        rooms (now (nums .exit)) (now (dens .exit)) (now (counts .exit)) ≡ tableRooms p (everyRun p) (ofPlan p) false f R) ⌝ }
 {
     frequencies(levels, table, f, false, nums, dens, counts)
 }
 
-// The same of W(I) / (n²(s - 1)), s being the smallest level in I.
+// The same of W(I) / (n²(s - 1)), s being the smallest level in I; 16 where f is above R.
 pub fn relative(
     levels: &[u8],
     table: &[u8],
@@ -80,13 +80,11 @@ pub fn relative(
     counts: &mut [u64],
 ) -> TableAnswer
     ensures answer { λ r. ⌜ (let p = plan (now (levels .entry)) (now (table .entry)) in
-        let ls = relativeTable (level p) (entry p) (everyRun p) (everyColumn p) f in
         let R = rooms (now (nums .entry)) (now (dens .entry)) (now (counts .entry)) in
-        r ≡ tableAnswer (ofPlan p) (columns p) f ls R) ⌝ }
+        r ≡ tableAnswer p (everyRun p) (ofPlan p) true f R) ⌝ }
     ensures rooms { λ _. ⌜ (let p = plan (now (levels .entry)) (now (table .entry)) in
-        let ls = relativeTable (level p) (entry p) (everyRun p) (everyColumn p) f in
         let R = rooms (now (nums .entry)) (now (dens .entry)) (now (counts .entry)) in
-        rooms (now (nums .exit)) (now (dens .exit)) (now (counts .exit)) ≡ tableRooms (ofPlan p) (columns p) f ls R) ⌝ }
+        rooms (now (nums .exit)) (now (dens .exit)) (now (counts .exit)) ≡ tableRooms p (everyRun p) (ofPlan p) true f R) ⌝ }
 {
     frequencies(levels, table, f, true, nums, dens, counts)
 }

@@ -5,19 +5,20 @@ use exact::fractions::is_better;
 use exact::fractions::is_equal;
 use exact::fractions::smaller_fraction;
 use rules::Refusal;
+use run_words::check_relative;
 use set_words::routines::value;
 ghost use mathlib.Core.Path.{_≡_};
+ghost use mathlib.Core.List.{[], _∷_};
 ghost use Prim.Native.Nat.{_≤_, _<_, min};
 ghost use lib.ListN.{length, take};
 ghost use Rattle.exact.specs.Lists.{into, first};
 ghost use Rattle.exact.specs.Fractions.{ShortDenominator};
-ghost use Rattle.rules.specs.Plan.{plan, columns};
+ghost use Rattle.rules.specs.Plan.{plan};
 ghost use Rattle.rules.specs.Refusals.{refusal, orElse};
 ghost use Rattle.sets.specs.Sets.{binom};
 ghost use Rattle.set_words.specs.Given.{Tabled, SizeOf};
-ghost use Rattle.projection_tables.specs.Given.{Comparable, Fillable, Wide, putBefore, notSmaller};
-ghost use Rattle.projection_tables.specs.Tables.{tableIn, rooms, linesIn, oneMore, roomsFilled, tableChecks, tableBeside, roomsBeside};
-ghost use Rattle.projection_tables.specs.Tables.{tableAnswer, tableRooms};
+ghost use Rattle.projection_tables.specs.Given.{Comparable, Fillable, Wide, Ranked, putBefore, notSmaller};
+ghost use Rattle.projection_tables.specs.Tables.{tableIn, rooms, linesIn, oneMore, roomsFilled, badRooms, tableChecks, tableBeside, roomsBeside};
 
 // Puts x in before place `at` of the first `used`; the next place after those is free.
 fn put_before(room: &mut [u64], used: usize, at: usize, x: u64)
@@ -143,11 +144,11 @@ pub fn frequencies(
     ensures answer { λ r. ⌜ (let p = plan (now (levels .entry)) (now (table .entry)) in
         let ls = tableIn relative p (now (runs .entry)) f in
         let R = rooms (now (nums .entry)) (now (dens .entry)) (now (counts .entry)) in
-        r ≡ tableAnswer (λ checks. checks) (columns p) f ls R) ⌝ }
+        r ≡ tableBeside ls (refusal (badRooms ls R ∷ []))) ⌝ }
     ensures rooms { λ _. ⌜ (let p = plan (now (levels .entry)) (now (table .entry)) in
         let ls = tableIn relative p (now (runs .entry)) f in
         let R = rooms (now (nums .entry)) (now (dens .entry)) (now (counts .entry)) in
-        rooms (now (nums .exit)) (now (dens .exit)) (now (counts .exit)) ≡ tableRooms (λ checks. checks) (columns p) f ls R) ⌝ }
+        rooms (now (nums .exit)) (now (dens .exit)) (now (counts .exit)) ≡ roomsBeside ls R (refusal (badRooms ls R ∷ []))) ⌝ }
 {
     let mut values = [0u64; 10626];
     let mut unders = [0u64; 10626];
@@ -177,30 +178,36 @@ pub fn frequencies(
     }
 }
 
-// The answer for some runs of a plan, behind the refusal that the call begins with: 6, of the size, and 7 last.
+// The answer for some runs of a plan, behind the refusal that the call begins with: 6, of the size, then 16, and 7 last. Only the
+// check of a relative table looks at the words.
 pub fn table_answer(
     refused: Refusal,
     levels: &[u8],
     table: &[u8],
     runs: &[usize],
+    words: &[i64; 24],
     f: usize,
     relative: bool,
     nums: &mut [u64],
     dens: &mut [u64],
     counts: &mut [u64],
 ) -> TableAnswer
-    requires { ⌜ (refused .number ≡ 0 → Tabled (plan (now levels) (now table)) (now runs)) ⌝ }
+    requires { ⌜ (refused .number ≡ 0 → Ranked (plan (now levels) (now table)) (now runs) (now words) relative) ⌝ }
     ensures answer { λ r. ⌜ (let p = plan (now (levels .entry)) (now (table .entry)) in
-        let ls = tableIn relative p (now (runs .entry)) f in
+        let rs = now (runs .entry) in
         let R = rooms (now (nums .entry)) (now (dens .entry)) (now (counts .entry)) in
-        r ≡ tableBeside ls (orElse refused (refusal (tableChecks (columns p) f ls R)))) ⌝ }
+        r ≡ tableBeside (tableIn relative p rs f) (orElse refused (refusal (tableChecks p rs relative f R)))) ⌝ }
     ensures rooms { λ _. ⌜ (let p = plan (now (levels .entry)) (now (table .entry)) in
-        let ls = tableIn relative p (now (runs .entry)) f in
+        let rs = now (runs .entry) in
         let R = rooms (now (nums .entry)) (now (dens .entry)) (now (counts .entry)) in
         rooms (now (nums .exit)) (now (dens .exit)) (now (counts .exit))
-        ≡ roomsBeside ls R (orElse refused (refusal (tableChecks (columns p) f ls R)))) ⌝ }
+        ≡ roomsBeside (tableIn relative p rs f) R (orElse refused (refusal (tableChecks p rs relative f R)))) ⌝ }
 {
     let refused = refused.or_else(sets::routines::check_size(levels.len(), f));
+    if refused.number != 0 {
+        return TableAnswer { refused, lines: 0 };
+    }
+    let refused = check_relative(relative, words, levels.len(), f);
     if refused.number != 0 {
         return TableAnswer { refused, lines: 0 };
     }

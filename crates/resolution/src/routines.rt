@@ -41,7 +41,7 @@ pub struct Rating {
 }
 
 // The first length whose word is above zero, and m + 1 where there is none.
-pub(crate) fn resolution(words: &[i64; 24], m: usize) -> usize
+pub fn resolution(words: &[i64; 24], m: usize) -> usize
     requires { ⌜ m ≤ mostColumns ⌝ }
     ensures { λ r. ⌜ r ≡ firstAbove (now (words .entry)) m ⌝ }
 {
@@ -52,7 +52,7 @@ pub(crate) fn resolution(words: &[i64; 24], m: usize) -> usize
         }
         j += 1;
     }
-    j
+    j // m + 1: no word is above zero
 }
 
 // The greater of two fractions; of equal ones the first.

@@ -15,7 +15,7 @@ given x = refusal (check (x .later) true ∷ check (x .sooner) true ∷ []) .num
 
 figures : List Both
 figures =
-    both 13 14 ∷ both 14 1 ∷ both 1 2 ∷ both 2 3 ∷ both 3 4 ∷ both 4 5 ∷ both 5 6 ∷ both 6 8 ∷ both 8 9 ∷ both 9 10 ∷ both 10 11 ∷ both 11 7 ∷ []
+    both 13 14 ∷ both 14 1 ∷ both 1 2 ∷ both 2 3 ∷ both 3 4 ∷ both 4 5 ∷ both 5 6 ∷ both 6 16 ∷ both 16 8 ∷ both 8 9 ∷ both 9 10 ∷ both 10 11 ∷ both 11 7 ∷ []
 
 order-figures : map given figures ≡ map (λ x. x .sooner) figures
 unfolding given figures

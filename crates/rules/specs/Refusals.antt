@@ -1,4 +1,4 @@
--- Document 01, "Refusal numbers": the thirteen checks, their places and their order. Number 12 is not used: request #109 withdrew it.
+-- Document 01, "Refusal numbers": the fourteen checks, their places and their order. Number 12 is not used: request #109 withdrew it. Number 15 is not given yet.
 use mathlib.Core.Bool.{Bool, cond, not, _&&_, _||_}
 use mathlib.Core.List.{List, [], _∷_, _++_}
 use Prim.Native.Nat.{ℕ, _/_, _%_}
@@ -31,7 +31,7 @@ pub record Check : Type 0 where
 
 -- the order in which the checks stand
 abbrev pub order : List ℕ
-order = 13 ∷ 14 ∷ 1 ∷ 2 ∷ 3 ∷ 4 ∷ 5 ∷ 6 ∷ 8 ∷ 9 ∷ 10 ∷ 11 ∷ 7 ∷ []
+order = 13 ∷ 14 ∷ 1 ∷ 2 ∷ 3 ∷ 4 ∷ 5 ∷ 6 ∷ 16 ∷ 8 ∷ 9 ∷ 10 ∷ 11 ∷ 7 ∷ []
 
 -- the checks that concern a call, in that order
 abbrev pub ordered : List Check → List Check
@@ -60,9 +60,9 @@ numberOr r value = unless r (negℤ (pos (r .number))) value
 
 -- no refusal has a larger number
 abbrev pub largestNumber : ℕ
-largestNumber = 14
+largestNumber = 16
 
--- ---- the thirteen
+-- ---- the fourteen
 
 abbrev pub check : ℕ → Bool → Check
 check k b = record { fails = b; gives = plain k }
@@ -105,6 +105,10 @@ badSize m f = check 6 (outside 1 4 f || ltb m f)
 -- 6: k is outside 1..3
 abbrev pub badNumber : ℕ → Check
 badNumber k = check 6 (outside 1 3 k)
+
+-- 16: the relative table is asked for f above R, the smallest j with W_j above zero
+abbrev pub pastResolution : Bool → ℕ → ℕ → Check
+pastResolution relative R f = check 16 (relative && ltb R f)
 
 -- 7: a lent room is too small for the whole answer
 abbrev pub badRoom : ℕ → ℕ → Check

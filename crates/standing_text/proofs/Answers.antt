@@ -5,7 +5,7 @@ use Rattle.exact.specs.Lists.{into}
 use Rattle.rules.specs.declared.Refusal.{Refusal}
 use Rattle.rules.specs.Plan.{mostColumns, mostEntries}
 use Rattle.rules.specs.Refusals.{Check, refusal, refuses, accepted, plain, unless, orElse, badRoom}
-use Rattle.rules.proofs.Ranges.{unless-refused, unless-accepted}
+use Rattle.rules.proofs.Ranges.{unless-refused, unless-accepted, or-refused, or-accepted, or-assoc}
 use Rattle.held.specs.declared.Held.{Held}
 use Rattle.held.specs.declared.HeldAnswer.{HeldAnswer}
 use Rattle.held.specs.Held.{IsHeld, planIn, standingIn}
@@ -23,11 +23,13 @@ use Rattle.standing_text.specs.StandingText.{
   heldText,
   numbersAfter,
   leftOf,
+  readLeft,
   rewritten,
   runsLeft,
   rewriteRefusal,
   rewriteAnswer,
 }
+use Rattle.standing_text.proofs.ReadLeft.{read-left-refused, read-left-accepted}
 
 -- ---- what stands beside a refusal
 
@@ -172,20 +174,21 @@ module _ (text lost room slots : List ℕ) where
   refused-rewrites : {x : Refusal} {r : TextAnswer} → R ≡ x → ¬ (x .number ≡ 0) → r ≡ refusedBy x → Rewrites text lost r room room slots slots
   refused-rewrites {x} {r} e n q = rewrites (refused-answers R (rewritten text lost) (runsLeft text lost) r room slots e n q)
 
-  pub not-read : {x : Refusal} {r : TextAnswer} → x ≡ ofReader → ¬ (x .number ≡ 0) → r ≡ refusedBy x → Rewrites text lost r room room slots slots
-  unfolding rewriteRefusal
-  not-read {x} e n q = refused-rewrites (rw (← e) (unless-refused x x (orElse (left .refused) ofText) n)) n q
+  -- the plan that is left, or what refuses it
+  module _ {a : HeldAnswer} (e : a ≡ readLeft text lost) where
+    first : R ≡ orElse (a .refused) ofText
+    unfolding rewriteRefusal
+    first =
+        sym (or-assoc ofReader (left .refused) ofText)
+        ∙ ap (λ r. orElse r ofText) (sym (ap (λ (x : HeldAnswer). x .refused) e ∙ read-left-refused text lost))
 
-  module _ (z : ofReader .number ≡ 0) where
-    next : R ≡ orElse (left .refused) ofText
-    next = then-struck text lost (length room) (length slots) z
+    pub not-left : {r : TextAnswer} → ¬ (a .refused .number ≡ 0) → r ≡ refusedBy (a .refused) → Rewrites text lost r room room slots slots
+    not-left n q = refused-rewrites (first ∙ or-refused (a .refused) ofText n) n q
 
-    module _ {a : HeldAnswer} (e : a ≡ left) where
-      pub not-struck : {r : TextAnswer} → ¬ (a .refused .number ≡ 0) → r ≡ refusedBy (a .refused) → Rewrites text lost r room room slots slots
-      not-struck n q = refused-rewrites (next ∙ rw (← e) (unless-refused (a .refused) (a .refused) _ n)) n q
-
-      pub all-struck : {w : HeldText} {after past : List ℕ} → a .refused .number ≡ 0 → Writes (a .held) w room after slots past →
-          Rewrites text lost (w .answer) room after slots past
-      all-struck y W =
-          let S : R ≡ textRefusal (a .held) (length room) (length slots) = next ∙ rw (← e) (unless-accepted (a .refused) (a .refused) _ y) in
-          rewrites (rw (S, ← e) (answers (a .held) room slots W))
+    pub left-written : {w : HeldText} {after past : List ℕ} → a .refused .number ≡ 0 → Writes (a .held) w room after slots past →
+        Rewrites text lost (w .answer) room after slots past
+    left-written z W =
+        let d : a ≡ left = e ∙ read-left-accepted text lost (ap (λ (x : HeldAnswer). x .refused .number) (sym e) ∙ z) in
+        let S : R ≡ textRefusal (a .held) (length room) (length slots)
+        = first ∙ or-accepted (a .refused) ofText z ∙ ap (λ (x : HeldAnswer). textRefusal (x .held) (length room) (length slots)) (sym d) in
+        rewrites (rw (S, ← d) (answers (a .held) room slots W))

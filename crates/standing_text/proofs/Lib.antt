@@ -1,4 +1,6 @@
 pub mod Struck
+pub mod ReadLeft
+pub mod Printed
 pub mod Made
 pub mod Answers
 pub mod Left

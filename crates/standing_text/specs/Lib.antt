@@ -1,1 +1,2 @@
 pub mod StandingText
+pub mod Printed

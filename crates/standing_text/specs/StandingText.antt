@@ -7,7 +7,7 @@ use Rattle.rules.specs.Plan.{mostColumns, mostEntries}
 use Rattle.rules.specs.Refusals.{refusal, accepted, unless, orElse, badRoom}
 use Rattle.held.specs.declared.Held.{Held}
 use Rattle.held.specs.declared.HeldAnswer.{HeldAnswer}
-use Rattle.held.specs.Held.{planIn, standingIn, openAnswer, strikes, callAnswer, ofStanding}
+use Rattle.held.specs.Held.{emptyHeld, planIn, standingIn, openAnswer, strikes, callAnswer, ofStanding}
 use Rattle.text.specs.Text.{planOf}
 use Rattle.text.specs.Reader.{readRefusal, filled}
 use Rattle.writer.specs.Writer.{textOf}
@@ -50,6 +50,11 @@ strikesAnswer h (f ∷ fs) = let a = callAnswer h (strikes f) in unless (a .refu
 -- the plan that the text holds, without the lost runs
 unfoldable pub leftOf : List ℕ → List ℕ → HeldAnswer
 leftOf text lost = strikesAnswer (openAnswer (planOf text) .held) lost
+
+-- the same, behind the reader's refusal, whose rooms hold every accepted plan: a text that it refuses leaves the empty plan
+unfoldable pub readLeft : List ℕ → List ℕ → HeldAnswer
+readLeft text lost =
+    let r = readRefusal text mostColumns mostEntries in unless r (record { refused = r; held = emptyHeld }) (leftOf text lost)
 
 -- its text, and the original numbers of the runs left
 abbrev pub rewritten : List ℕ → List ℕ → List ℕ

@@ -2,12 +2,10 @@
 use held::Held;
 use held::routines::standing_runs;
 use routines::copy;
+use routines::read_left;
 use routines::refused_by;
-use routines::struck;
 use routines::text_of;
 use rules::Refusal;
-use rules::sizes::MOST_COLUMNS;
-use rules::sizes::MOST_ENTRIES;
 ghost use mathlib.Core.Path.{_≡_};
 ghost use Prim.Native.Nat.{_≤_};
 ghost use lib.ListN.{length};
@@ -71,17 +69,7 @@ pub fn rewrite(text: &[u8], lost: &[usize], room: &mut [u8], numbers: &mut [usiz
     ensures numbers { λ r. ⌜ now (numbers .exit) ≡ filled (r .refused) (runsLeft (now (text .entry)) (now (lost .entry))) (now (numbers .entry)) ⌝ }
     ensures within { λ r. ⌜ (r .bytes ≤ length (now (room .exit))) × (r .runs ≤ length (now (numbers .exit))) ⌝ }
 {
-    let mut levels = [0u8; MOST_COLUMNS];
-    let mut table = [0u8; MOST_ENTRIES];
-    let read = text::read(text, &mut levels, &mut table);
-    let refused = read.refused;
-    if refused.number != 0 {
-        return refused_by(refused);
-    }
-    let columns = read.columns;
-    let entries = columns * read.runs;
-    let opened = held::calls::open(&levels[..columns], &table[..entries]);
-    let left = struck(opened.held, lost);
+    let left = read_left(text, lost);
     let stopped = left.refused;
     if stopped.number != 0 {
         return refused_by(stopped);

@@ -1,9 +1,11 @@
-// The parts of the two calls: the strikes, the text, the numbers.
+// The parts of the two calls: what is left of a text, the strikes, the text, the numbers.
 use crate::TextAnswer;
 use held::Held;
 use held::HeldAnswer;
 use held::routines::standing_runs;
 use rules::Refusal;
+use rules::sizes::MOST_COLUMNS;
+use rules::sizes::MOST_ENTRIES;
 use writer::WriteAnswer;
 ghost use mathlib.Core.Path.{_≡_};
 ghost use Prim.Native.Nat.{_≤_, _<_};
@@ -12,7 +14,7 @@ ghost use Rattle.exact.specs.Lists.{into};
 ghost use Rattle.held.specs.Held.{IsHeld, planIn, standingIn};
 ghost use Rattle.text.specs.Reader.{filled};
 ghost use Rattle.writer.specs.Writer.{writeAnswer};
-ghost use Rattle.standing_text.specs.StandingText.{refusedBy, textIn, strikesAnswer};
+ghost use Rattle.standing_text.specs.StandingText.{refusedBy, textIn, strikesAnswer, readLeft};
 
 pub(crate) fn refused_by(refused: Refusal) -> TextAnswer
     ensures { λ r. ⌜ r ≡ refusedBy refused ⌝ }
@@ -75,4 +77,24 @@ pub fn struck(held: Held, lost: &[usize]) -> HeldAnswer
         refused,
         held: left,
     }
+}
+
+// The plan of a text without the lost runs: refusals 13, 14, 1 to 5, then those of the first strike that is refused. A text that is not
+// read leaves the empty plan.
+pub fn read_left(text: &[u8], lost: &[usize]) -> HeldAnswer
+    ensures { λ r. ⌜ r ≡ readLeft (now (text .entry)) (now (lost .entry)) ⌝ }
+{
+    let mut levels = [0u8; MOST_COLUMNS];
+    let mut table = [0u8; MOST_ENTRIES];
+    let read = text::read(text, &mut levels, &mut table);
+    let refused = read.refused;
+    if refused.number != 0 {
+        let nothing = held::calls::open(&[], &[]);
+        let held = nothing.held;
+        return HeldAnswer { refused, held };
+    }
+    let columns = read.columns;
+    let entries = columns * read.runs;
+    let opened = held::calls::open(&levels[..columns], &table[..entries]);
+    struck(opened.held, lost)
 }

@@ -8,7 +8,7 @@ use Rattle.exact.proofs.Numbers.{map-places, mem-from}
 use Rattle.exact.proofs.Rooms.{filled-length, filled-front}
 use Rattle.rules.specs.Plan.{Plan, entry}
 use Rattle.words.proofs.OfPlan.{sound-run}
-use Rattle.lines.proofs.Lines.{each-cong-in}
+use Rattle.lines.proofs.Lines.{each-cong-in, each-map}
 use Rattle.tell.specs.declared.Joins.{Joins}
 use Rattle.tell.specs.Given.{Asked}
 use Rattle.tell.specs.Evidence.{links, mostGroups, evidence}
@@ -20,10 +20,6 @@ use Rattle.tell_lines.specs.Parts.{pairLineAt, pairLinesOf, Linked}
 -- what stands in front of a row that is filled up
 filled-at : (n : ℕ) (xs : List ℕ) (k : ℕ) → k < length xs → getD (filledTo n 0 xs) k 0 ≡ getD xs k 0
 filled-at n xs k h = sym (getD-take (length xs) (filledTo n 0 xs) k 0 h) ∙ ap (λ l. getD l k 0) (filled-front n 0 xs)
-
-each-map-in : {A B : Type 0} (n : A → B) (g : B → List ℕ) (xs : List A) → each (map n xs) g ≡ each xs (λ x. g (n x))
-each-map-in n g [] = refl
-each-map-in n g (x ∷ xs) = rw (each-map-in n g xs)
 
 module _ (p : Plan) (rs : List ℕ) (a : ℕ) (J : List ℕ) (A : Asked p rs a J) where
   abbrev pairs : List (ℕ × ℕ)
@@ -84,5 +80,5 @@ module _ (p : Plan) (rs : List ℕ) (a : ℕ) (J : List ℕ) (A : Asked p rs a J
         ∙ each-cong-in (from 0 (length pairs)) (λ k m.
         let h : k < length pairs = let q = mem-from 0 (length pairs) m in omega arith in
         ap₂ (λ f g. pairLine p rs a J (f, g)) (left-at k h) (right-at k h))
-        ∙ sym (each-map-in (λ k. getD pairs k (0, 0)) (pairLine p rs a J) (from 0 (length pairs)))
+        ∙ sym (each-map (λ k. getD pairs k (0, 0)) (pairLine p rs a J) (from 0 (length pairs)))
         ∙ ap (λ l. each l (pairLine p rs a J)) (map-places pairs (0, 0))

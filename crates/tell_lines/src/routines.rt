@@ -1,8 +1,8 @@
 // For our own crates: the lines of an answer, put into a room one after the other. Each answers the place behind its bytes.
-use crate::Written;
 use exact::fractions::Fraction;
+use lines::Written;
 use lines::write_line;
-use lines::write_refusal;
+use lines::write_refused;
 use rules::Refusal;
 use sets::routines::holds;
 use tell::Joins;
@@ -463,11 +463,7 @@ pub fn write_tell(
     let answer = tell_answer(refused, levels, table, runs, column, others);
     let stopped = answer.refused;
     if stopped.number != 0 {
-        let bytes = write_refusal(stopped, room);
-        return Written {
-            refused: stopped,
-            bytes,
-        };
+        return write_refused(stopped, room);
     }
     let words = words_figure(levels, table, runs, column, others);
     let joins = answer.joins;

@@ -9,7 +9,7 @@ use Rattle.rules.proofs.Ranges.{unless-refused, or-refused, or-accepted, or-ass
 use Rattle.marked.specs.Marked.{ofMarked}
 use Rattle.marked.proofs.Beginnings.{begun-handed}
 use Rattle.tell.specs.Answer.{badAsked, tellChecks}
-use Rattle.tell_lines.specs.declared.Written.{Written}
+use Rattle.lines.specs.declared.Written.{Written}
 use Rattle.tell_marked.specs.TellMarked.{markedLines, markedRefusal, markedWritten, tellRoom}
 
 module _ (p : Plan) (marks : List ℕ) (a : ℕ) (J room : List ℕ) where

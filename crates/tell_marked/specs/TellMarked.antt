@@ -9,7 +9,7 @@ use Rattle.rules.specs.Plan.{Plan, columns}
 use Rattle.rules.specs.Refusals.{Check, refusal, unless, numberOr, badRoom}
 use Rattle.marked.specs.Marked.{markedRuns, ofMarked}
 use Rattle.tell.specs.Answer.{badAsked}
-use Rattle.tell_lines.specs.declared.Written.{Written}
+use Rattle.lines.specs.declared.Written.{Written}
 use Rattle.tell_lines.specs.TellLines.{tellLines}
 
 module _ (p : Plan) (marks : List ℕ) (a : ℕ) (J : List ℕ) where

@@ -1,9 +1,9 @@
 // The assessor's question of a C program: a plan, a mark for each run, a column and others; its lines go into a lent room.
 use held::routines::Standing;
+use lines::Written;
 use lines::write_bytes;
 use marked::marked_runs;
 use rules::Refusal;
-use tell_lines::Written;
 use tell_lines::routines::write_tell;
 ghost use mathlib.Core.Path.{_≡_};
 ghost use Prim.Native.Nat.{_≤_};

@@ -1,39 +1,25 @@
 // For our own crates: the lines, put into a room that holds every answer.
 use held::Held;
 use held::routines::standing_runs;
-use lines::write_refusal;
-use rules::Refusal;
-use rules::sizes::MOST_COLUMNS;
-use rules::sizes::MOST_ENTRIES;
-use standing_text::routines::struck;
-use tell_lines::Written;
+use lines::Written;
+use lines::write_refused;
+use standing_text::routines::read_left;
 use tell_lines::routines::write_tell;
 ghost use mathlib.Core.Path.{_≡_};
 ghost use Prim.Native.Nat.{_≤_};
 ghost use lib.ListN.{length};
 ghost use Rattle.held.specs.Held.{IsHeld};
 ghost use Rattle.text.specs.Bytes.{Put};
-ghost use Rattle.lines.specs.Lines.{refusalLine};
 ghost use Rattle.tell_lines.specs.Parts.{mostBytes};
 ghost use Rattle.tell_text.specs.TellText.{heldRefusal, heldLines, tellRefusal, tellText};
-
-// The one line of a refusal.
-fn write_refused(refused: Refusal, room: &mut [u8]) -> Written
-    requires { ⌜ mostBytes ≤ length (now room) ⌝ }
-    ensures refused { λ r. ⌜ r .refused ≡ refused ⌝ }
-    ensures bytes { λ r. ⌜ Put (refusalLine refused) mostBytes 0 (now (room .entry)) (r .bytes) (now (room .exit)) ⌝ }
-{
-    let bytes = write_refusal(refused, room);
-    Written { refused, bytes }
-}
 
 // The standing runs of a held plan: refusals 10 and 8.
 pub fn write_held(held: Held, column: usize, others: &[usize], room: &mut [u8]) -> Written
     requires { ⌜ IsHeld held ⌝ }
     requires { ⌜ mostBytes ≤ length (now room) ⌝ }
-    ensures refused { λ r. ⌜ r .refused ≡ heldRefusal held column (now (others .entry)) ⌝ }
+    ensures refused { λ r. ⌜ r .refused ≡ heldRefusal column (now (others .entry)) held ⌝ }
     ensures bytes { λ r.
-        ⌜ Put (heldLines held column (now (others .entry)) (r .refused)) mostBytes 0 (now (room .entry)) (r .bytes) (now (room .exit)) ⌝ }
+        ⌜ Put (heldLines column (now (others .entry)) held (r .refused)) mostBytes 0 (now (room .entry)) (r .bytes) (now (room .exit)) ⌝ }
 {
     let columns = held.columns;
     let size = held.runs * columns;
@@ -66,20 +52,10 @@ pub fn write_text(
     ensures bytes { λ r.
         ⌜ Put (tellText (now (text .entry)) (now (lost .entry)) column (now (others .entry))) mostBytes 0 (now (room .entry)) (r .bytes) (now (room .exit)) ⌝ }
 {
-    let mut levels = [0u8; MOST_COLUMNS];
-    let mut table = [0u8; MOST_ENTRIES];
-    let read = text::read(text, &mut levels, &mut table);
-    let refused = read.refused;
+    let left = read_left(text, lost);
+    let refused = left.refused;
     if refused.number != 0 {
         return write_refused(refused, room);
-    }
-    let columns = read.columns;
-    let entries = columns * read.runs;
-    let opened = held::calls::open(&levels[..columns], &table[..entries]);
-    let left = struck(opened.held, lost);
-    let stopped = left.refused;
-    if stopped.number != 0 {
-        return write_refused(stopped, room);
     }
     write_held(left.held, column, others, room)
 }

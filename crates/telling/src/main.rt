@@ -1,34 +1,18 @@
 // Reads plan text and writes whether its runs tell a column from others acting together. The arguments name the column, then the others,
 // and behind `--` the runs that were lost.
 use console::arguments::dashes;
+use console::arguments::lost_runs;
 use console::arguments::number_at;
 use console::arguments::numbers_at;
 use libc::STDIN_FILENO;
+use lines::Written;
 use rules::sizes::MOST_RUNS;
-use tell_lines::Written;
 use tell_text::MOST_BYTES;
 use tell_text::routines::write_text;
-ghost use Prim.Native.Nat.{_≤_};
-ghost use lib.ListN.{length};
-ghost use Rattle.io.specs.Counts.{Counts};
-ghost use Rattle.rules.specs.Plan.{mostRuns};
 
 // One place more than a plan has columns, so that more others than these are refused by then.
 const MOST_OTHERS: usize = 25;
 
-// The runs named behind the argument at this place, into a room for as many as a plan has runs.
-fn lost_runs(dashes: usize, runs: &mut [usize]) -> usize
-    requires { ⌜ mostRuns ≤ length (now runs) ⌝ }
-    ensures { λ r. ⌜ Counts r (now (runs .exit)) ⌝ }
-{
-    let arguments = os::arg_count();
-    if arguments <= dashes {
-        return 0;
-    }
-    numbers_at(dashes + 1, arguments, runs)
-}
-
-// A plan has at most 256 runs, so that more lost runs than that are refused by then.
 fn main() {
     let end = dashes();
     let column = number_at(1);

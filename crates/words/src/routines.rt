@@ -53,7 +53,7 @@ pub(crate) fn extend(sums: &mut [i64; 25], score: i64, columns: usize)
 }
 
 // The sums of a pair go into a total. They may end at the plan's number of columns, since those of greater lengths are zero.
-pub(crate) fn add_to(total: &mut [i64; 24], more: &[i64])
+pub fn add_to(total: &mut [i64; 24], more: &[i64])
     requires { ⌜ Row (2 ^ 61) (now total) × Part (2 ^ 61) (now more) ⌝ }
     ensures { λ _. ⌜ now (total .exit) ≡ added (now (total .entry)) (now (more .entry)) ⌝ }
 {
@@ -145,7 +145,7 @@ fn add_later(total: &mut [i64; 24], levels: &[u8], table: &[u8], f: usize)
 }
 
 // The total of each pair in one order becomes that in both, and each of the runs has a pair with itself.
-fn both_orders(total: &mut [i64; 24], own: &[i64], runs: usize)
+pub fn both_orders(total: &mut [i64; 24], own: &[i64], runs: usize)
     requires { ⌜ Row (2 ^ 60) (now total) × (Row (2 ^ 32) (now own) × (runs ≤ mostRuns)) ⌝ }
     ensures { λ _. ⌜ now (total .exit) ≡ bothOrders runs (now (own .entry)) (now (total .entry)) ⌝ }
 {

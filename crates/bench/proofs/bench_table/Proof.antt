@@ -1,10 +1,11 @@
 -- `bench::bench_table` meets its contract: the lines, no more than the rooms have places, or the refusal's number negated.
 use Rattle.exact.proofs.Ground.{_∙_, arith, needs}
 use Rattle.exact.proofs.Bits.{of}
-use Rattle.rules.specs.Plan.{Plan, plan}
+use Rattle.rules.specs.Plan.{Plan, plan, everyRun}
 use Rattle.projection_tables.specs.Tables.{Rooms, rooms}
+use Rattle.projection_tables.proofs.Answers.{plan-lines-fit}
 use Rattle.bench.specs.Exports.{tableNumber}
-use Rattle.bench.proofs.Answers.{table-number, lines-within}
+use Rattle.bench.proofs.Answers.{table-number}
 use Rattle.bench.proofs.bench_table.Statement.{statement}
 use Rattle.bench.proofs.bench_table.Tie as tie
 
@@ -21,12 +22,14 @@ module _ (k : tie.After-frequencies) where
 of-size-requires : tie.Need-of-size-requires
 of-size-requires c κs =
     let k = c .before .before .before .before .before .before in
-    omega (arith, lines-within (given k) _ _ (lent k) (k .frequencies .ensures .0), start k .good)
+    let a = start k .args in
+    omega (arith, plan-lines-fit (given k) (everyRun (given k)) (a .relative) (a .f) (lent k) (k .frequencies .ensures .0), start k .good)
 
 number-or-requires : tie.Need-number-or-requires
 number-or-requires c κs =
     let k = c .before .before .before .before .before .before .before in
-    table-number (given k) _ _ (lent k) (k .frequencies .ensures .0)
+    let a = start k .args in
+    table-number (given k) (a .relative) (a .f) (lent k) (k .frequencies .ensures .0)
 
 returns : tie.Need-returns
 unfolding tableNumber

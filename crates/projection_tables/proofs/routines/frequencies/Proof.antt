@@ -46,7 +46,7 @@ returns c =
     let m = t .before .before .before .before .before .before in
     let short : shortest (lent m) < length (lines m) = omega (arith, t .if1 .taken, room (t .before), m .tabulate .ensures .0) in
     rw (c .plain .ensures)
-    (too-short (length (start m .args .levels .now)) (start m .args .f) (start m .pre .1) (lines m) (lent m) short)
+    (too-short (lines m) (lent m) short)
 
 -- the lines fit each of the lent rooms
 abbrev tabulated : tie.Else1 → tie.After-tabulate
@@ -87,7 +87,7 @@ returns-2 c =
     let m = tabulated e in
     let (count, table) = m .tabulate .ensures in
     let enough : length (lines m) ≤ shortest (lent m) = omega (arith, e .if1 .left, room (e .before), count) in
-    let answer = long-enough (length (start m .args .levels .now)) (start m .args .f) (start m .pre .1) (lines m) (lent m) enough in (
+    let answer = long-enough (lines m) (lent m) enough in (
       rw (c .accepted .ensures, count) (answer .0),
       rw (first .copy-into .ensures, second .copy-into2 .ensures, third .copy-into3 .ensures)
           (lines-copied (lines m) (blank m) (made m) (m .tabulate .result) count table (lent m) ∙ answer .1),

@@ -1,19 +1,17 @@
 -- The lines of the first k pairs are put in.
-use Rattle.exact.proofs.Ground.{true, [], _∷_, _≡_, ap, refl, ap₂, _≤_, _-_, arith, getD}
-use Rattle.exact.specs.Lists.{from, each}
-use Rattle.exact.proofs.Lists.{keep-all}
+use Rattle.exact.proofs.Ground.{[], _∷_, _≡_, refl, ap₂, _≤_, _-_, arith, getD}
 use Rattle.rules.specs.Plan.{plan}
 use Rattle.text.specs.Bytes.{bytes}
 use Rattle.text.proofs.Puts.{put-as, put-none, put-kept}
 use Rattle.lines.specs.Lines.{lineOf}
+use Rattle.lines.proofs.Lines.{PutEach, each-put}
 use Rattle.tell_lines.specs.Parts.{pairLineAt}
-use Rattle.tell_lines.proofs.Sifted.{PutKept, line-put}
 use Rattle.tell_lines.proofs.routines.write_pairs.Statement.{statement}
 use Rattle.tell_lines.proofs.routines.write_pairs.Tie as tie
 
 abbrev Inv-loop : tie.InvT-loop
 Inv-loop levels table column room₀ at left right end₀ k₀ t16 k-end room end k =
-    (k ≤ k-end) × PutKept (λ i. true) (pairLineAt (plan levels table) column left right) 89 k at room₀ end room
+    (k ≤ k-end) × PutEach (pairLineAt (plan levels table) column left right) 89 k at room₀ end room
 
 abbrev μ-loop : tie.MeasureT-loop
 μ-loop levels table column room₀ at left right end₀ k₀ t16 k-end room end k = k-end - k
@@ -52,7 +50,7 @@ loop-again c =
     let f = getD (a .joins .left) (l .loop .k) 0 in
     let g = getD (a .joins .right) (l .loop .k) 0 in (
       omega arith,
-      line-put (λ i. true) (pairLineAt p (a .column) (a .joins .left) (a .joins .right)) 89 (l .loop .k) refl (l .loop .inv .1)
+      each-put (pairLineAt p (a .column) (a .joins .left) (a .joins .right)) 89 (l .loop .k) (l .loop .inv .1)
           (put-as (ap₂ (λ x y. lineOf (bytes "pair") (f ∷ g ∷ x ∷ y ∷ [])) (w .before .before .before .before .before .entry-at .ensures)
           (w .before .before .before .before .entry-at2 .ensures)) (omega arith) (w .write-line .ensures)),
     )
@@ -62,8 +60,7 @@ returns c =
     let l = c .before in
     let a = start l .args in
     let e : l .loop .k ≡ a .joins .many = omega arith in
-    let line = pairLineAt (plan (a .levels .now) (a .table .now)) (a .column) (a .joins .left) (a .joins .right) in
-    rw (← e) (put-as (ap (λ l. each l line) (keep-all (from 0 (l .loop .k)))) (omega arith) (l .loop .inv .1))
+    rw (← e) (l .loop .inv .1)
 
 same-length : tie.Need-same-length Inv-loop μ-loop
 same-length c = put-kept (returns c)

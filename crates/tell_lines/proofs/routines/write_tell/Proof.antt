@@ -1,9 +1,10 @@
 -- The one line of what refuses the question, or the lines of its answer.
-use Rattle.exact.proofs.Ground.{sym, arith, needs}
+use Rattle.exact.proofs.Ground.{_∙_, sym, arith, needs}
 use Rattle.rules.specs.Plan.{Plan, plan}
-use Rattle.rules.proofs.Ranges.{unless-refused, unless-accepted}
+use Rattle.rules.proofs.Ranges.{unless-accepted}
 use Rattle.text.proofs.Puts.{put-as}
 use Rattle.lines.specs.Lines.{refusalLine}
+use Rattle.lines.proofs.Lines.{put-refused}
 use Rattle.tell_lines.specs.TellLines.{tellLines}
 use Rattle.tell_lines.proofs.Asked.{told-refused, given-asked, given-projection, given-some, given-answered}
 use Rattle.tell_lines.proofs.routines.write_tell.Statement.{statement}
@@ -24,10 +25,9 @@ returns c =
     let t = w .before .before in
     let k = t .before .before .before in
     let a = start k .args in
-    let r = k .tell-answer .result .refused in (
-      told-refused (given k) (a .runs .now) (a .column) (a .others .now) (a .refused) (start k .pre .0) (k .tell-answer .ensures),
-      put-as (sym (unless-refused r (refusalLine r) (tellLines (given k) (a .runs .now) (a .column) (a .others .now)) (t .if1 .taken))) (omega arith)
-          (w .write-refusal .ensures),
+    let e = w .write-refused .ensures .0 in (
+      e ∙ told-refused (given k) (a .runs .now) (a .column) (a .others .now) (a .refused) (start k .pre .0) (k .tell-answer .ensures),
+      put-refused (tellLines (given k) (a .runs .now) (a .column) (a .others .now)) e (t .if1 .taken) (omega arith) (w .write-refused .ensures .1),
     )
 
 words-figure-requires : tie.Need-words-figure-requires

@@ -1,135 +1,48 @@
--- The plan that was read is opened and struck, and what is left of it asked.
-use Rattle.exact.proofs.Ground.{_≡_, _∙_, sym, ap, ap₂, arith, length, needs}
-use Rattle.rules.specs.Plan.{plan, mostColumns, mostEntries}
-use Rattle.held.specs.declared.HeldAnswer.{HeldAnswer}
-use Rattle.held.specs.Held.{openAnswer}
-use Rattle.held.proofs.Opened.{open-held}
-use Rattle.text.specs.declared.ReadAnswer.{ReadAnswer}
-use Rattle.text.specs.Text.{planOf}
-use Rattle.text.specs.Reader.{readRefusal}
-use Rattle.text.proofs.InFront.{InFront, entries-few, in-front}
-use Rattle.text.proofs.Puts.{put-as}
-use Rattle.standing_text.specs.StandingText.{strikesAnswer, leftOf}
-use Rattle.standing_text.proofs.Struck.{left-held}
-use Rattle.tell_text.proofs.Answers.{read-refused, read-line, strike-refused, strike-line, asked-refusal, asked-lines}
+-- What is left of the text is asked.
+use Rattle.exact.proofs.Ground.{arith, needs}
+use Rattle.standing_text.proofs.ReadLeft.{read-left-held}
+use Rattle.standing_text.proofs.Printed.{left-prints, question-prints}
+use Rattle.tell_text.specs.TellText.{heldRefusal, heldAnswer, tellRefusal, tellText}
 use Rattle.tell_text.proofs.routines.write_text.Statement.{statement}
 use Rattle.tell_text.proofs.routines.write_text.Tie as tie
 
-abbrev startAt : tie.After-read → tie.Start
-startAt k = k .before .before .before .before .before .before .before
-
-abbrev readAt : tie.Else1 → tie.After-read
-readAt c = c .before .before .before .before .before
-
-by-reader : (k : tie.After-read) → k .read .result .refused ≡ readRefusal (startAt k .args .text .now) mostColumns mostEntries
-by-reader k = ap (λ (a : ReadAnswer). a .refused) (k .read .ensures .0)
-
--- the plan that was read
-front : (c : tie.Else1) →
-    let k = readAt c in
-    InFront (planOf (startAt k .args .text .now)) (k .read .result) (k .read .last .1 .0) (k .read .last .1 .1 .0)
-front c =
-    let k = readAt c in
-    let r = k .read .ensures in
-    in-front (startAt k .args .text .now) (r .0) (c .if1 .left) _ _ (r .1 .0) (r .1 .1)
-
--- what the strikes left of it
-left-is : (k : tie.After-struck) →
-    let s = startAt (readAt (k .before .before .before .before .before)) in
-    k .struck .result ≡ leftOf (s .args .text .now) (s .args .lost .now)
-unfolding leftOf
-left-is k =
-    let e = k .before .before .before .before .before in
-    let F = front e in
-    k .struck .ensures
-    ∙ ap (λ (a : HeldAnswer). strikesAnswer (a .held) (startAt (readAt e) .args .lost .now))
-    (k .before .«open» .ensures ∙ ap openAnswer (ap₂ plan (F .levels) (F .table)))
+abbrev start : tie.After-read-left → tie.Start
+start k = k .before .before .before .before .before
 
 returns : tie.Need-returns
+unfolding tellRefusal tellText
 returns c =
     let w = c .before .before in
     let t = w .before .before in
-    let k = t .before .before .before .before .before in
-    let a = startAt k .args in
-    let n = t .if1 .taken in (
-      w .write-refused .ensures .0 ∙ read-refused (a .text .now) (a .lost .now) (a .column) (a .others .now) (by-reader k) n,
-      put-as (read-line (a .text .now) (a .lost .now) (a .column) (a .others .now) (by-reader k) n) (omega arith) (w .write-refused .ensures .1),
-    )
-
-mul-entries : tie.Need-mul-entries
-mul-entries c = let F = front (c .before) in omega (arith, F .entries, entries-few _ (F .good))
-
-array-share-prefix-levels : tie.Need-array-share-prefix-levels
-array-share-prefix-levels c = let F = front (c .before) in omega (arith, F .columns, F .good .columns-high)
-
-slice-aggregate-open : tie.Need-slice-aggregate-open
-slice-aggregate-open c = let F = front (c .before .before) in F .columns ∙ sym (ap length (F .levels))
-
-array-share-prefix-table : tie.Need-array-share-prefix-table
-array-share-prefix-table c = let F = front (c .before .before) in omega (arith, F .entries, entries-few _ (F .good))
-
-slice-aggregate-open-2 : tie.Need-slice-aggregate-open-2
-slice-aggregate-open-2 c = let F = front (c .before .before .before) in F .entries ∙ sym (ap length (F .table))
-
-struck-requires : tie.Need-struck-requires
-struck-requires c κs = rw (c .«open» .ensures) (open-held _)
-
-write-refused-requires-2 : tie.Need-write-refused-requires-2
-write-refused-requires-2 c κs = let e = c .before .before .before .before .before .before .before .before .before in startAt (readAt e) .pre
-
-returns-2 : tie.Need-returns-2
-returns-2 c =
-    let w = c .before .before in
-    let t = w .before .before in
     let k = t .before .before .before in
-    let e = k .before .before .before .before .before in
-    let a = startAt (readAt e) .args in
-    let n = t .if2 .taken in (
-      w .write-refused2 .ensures .0 ∙ strike-refused (a .text .now) (a .lost .now) (a .column) (a .others .now) (by-reader (readAt e)) (e .if1 .left) (left-is k) n,
-      put-as (strike-line (a .text .now) (a .lost .now) (a .column) (a .others .now) (by-reader (readAt e)) (e .if1 .left) (left-is k) n) (omega arith)
-          (w .write-refused2 .ensures .1),
-    )
+    let a = start k .args in
+    left-prints (heldRefusal (a .column) (a .others .now)) (heldAnswer (a .column) (a .others .now)) (a .text .now) (a .lost .now) (k .read-left .ensures)
+    (t .if1 .taken) (w .write-refused .ensures .0) (omega arith) (w .write-refused .ensures .1)
 
 write-held-requires : tie.Need-write-held-requires
 write-held-requires c κs =
     let k = c .before .before .before .before in
-    let s = startAt (readAt (k .before .before .before .before .before)) in
-    (rw (left-is k) (left-held (s .args .text .now) (s .args .lost .now)), s .pre)
+    let s = start k in
+    (rw (k .read-left .ensures) (read-left-held (s .args .text .now) (s .args .lost .now)), s .pre)
 
-returns-3 : tie.Need-returns-3
-returns-3 c =
+returns-2 : tie.Need-returns-2
+unfolding tellRefusal tellText
+returns-2 c =
     let w = c .before .before in
     let t = w .before .before in
     let k = t .before .before .before in
-    let e = k .before .before .before .before .before in
-    let a = startAt (readAt e) .args in
-    let z = t .if2 .left in
-    let d = w .write-held .ensures .0 in (
-      asked-refusal (a .text .now) (a .lost .now) (a .column) (a .others .now) (by-reader (readAt e)) (e .if1 .left) (left-is k) z d,
-      put-as (asked-lines (a .text .now) (a .lost .now) (a .column) (a .others .now) (by-reader (readAt e)) (e .if1 .left) (left-is k) z d) (omega arith)
-          (w .write-held .ensures .1),
-    )
+    let a = start k .args in
+    question-prints (heldRefusal (a .column) (a .others .now)) (heldAnswer (a .column) (a .others .now)) (a .text .now) (a .lost .now)
+    (k .read-left .ensures) (t .if1 .left) (w .write-held .ensures .0) (w .write-held .ensures .1)
 
 pub write-text-spec : {M : Type 1} → statement M
 write-text-spec =
     tie.close
     (tie.spec
-    (λ c. search needs)
-    (λ c. search needs)
     (λ c κs. search needs)
     (λ c κs. search needs)
     (λ c. search needs)
     returns
-    mul-entries
-    array-share-prefix-levels
-    slice-aggregate-open
-    array-share-prefix-table
-    slice-aggregate-open-2
-    (λ c κs. search needs)
-    struck-requires
-    write-refused-requires-2
-    (λ c. search needs)
-    returns-2
     write-held-requires
     (λ c. search needs)
-    returns-3)
+    returns-2)

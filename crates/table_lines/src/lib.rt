@@ -1,0 +1,2 @@
+// A projection table as lines (request #107).
+pub mod routines;
