@@ -19,8 +19,8 @@
 #include <stddef.h>
 #include <stdint.h>
 
-#define CRUMB_VERSION "0.10.0"
-#define CRUMB_VERSION_NUMBER 1000 /* 10000 * major + 100 * minor + patch */
+#define CRUMB_VERSION "0.11.0"
+#define CRUMB_VERSION_NUMBER 1100 /* 10000 * major + 100 * minor + patch */
 
 /* The refusals: number, name, what is wrong, what to do. A call that is
  * refused answers the number negated. Numbers 12 and 15 are not used. The
@@ -102,7 +102,7 @@ int64_t crumb_word(const uint8_t *levels, size_t columns,
  * they were. Where the room is smaller than the listing the answer is -7 and
  * no byte of the room is written.
  *
- * Stack: less than 192 KB, 128 KB of it to count level combinations.
+ * Stack: less than 192 KB.
  */
 int64_t crumb_listing(const uint8_t *text, size_t length,
                       uint8_t *room, size_t bytes);
@@ -218,7 +218,7 @@ int64_t crumb_tell(const uint8_t *levels, size_t columns,
  *   -16 the relative table is asked for f above R
  *   -7  a room has fewer places than the table has lines
  *
- * Stack: less than 416 KB, 249 KB of it for the lines of the largest table.
+ * Stack: less than 640 KB.
  */
 int64_t crumb_table(const uint8_t *levels, size_t columns,
                     const uint8_t *table, size_t entries,

@@ -7,7 +7,7 @@
 
 int printf(const char *format, ...);
 
-enum { COLUMNS = 24, RUNS = 256, ROOM = 1 << 19 };
+enum { COLUMNS = 24, RUNS = 256, ROOM = 1 << 20 };
 
 static uint8_t levels[COLUMNS], table[RUNS * COLUMNS];
 static uint8_t room[ROOM] __attribute__((aligned(16)));
@@ -16,7 +16,7 @@ static uint8_t text[2 * (RUNS + 1) * COLUMNS], written[18504];
 static const size_t lost[2] = { 5, 10 };
 static size_t numbers[RUNS], others[COLUMNS - 1];
 static uint8_t told[144000];
-static uint64_t nums[10626], dens[10626], counts[10626];
+static uint64_t nums[2000], dens[2000], counts[2000];
 static int64_t answer;
 
 /* Column i is the parity of the bits that the run's number and i + 1 share. */
@@ -61,9 +61,10 @@ static void ask_tell(void)
     answer = crumb_tell(levels, COLUMNS, table, sizeof table, 0, 0, 0, others, COLUMNS - 1, told, sizeof told);
 }
 
+/* Rooms that have no place for every set, so that the table is made in rooms of its own. */
 static void ask_table(void)
 {
-    answer = crumb_table(levels, COLUMNS, table, sizeof table, 0, 0, 3, 1, nums, 10626, dens, 10626, counts, 10626);
+    answer = crumb_table(levels, COLUMNS, table, sizeof table, 0, 0, 4, 0, nums, 2000, dens, 2000, counts, 2000);
 }
 
 /* Calls `work` with the end of the room as its stack. */
@@ -93,7 +94,7 @@ static const struct { const char *name; void (*work)(void); long limit; } calls[
     { "crumb_write", ask_write, 32768 },
     { "crumb_rewrite", ask_rewrite, 65536 },
     { "crumb_tell", ask_tell, 196608 },
-    { "crumb_table", ask_table, 425984 },
+    { "crumb_table", ask_table, 655360 },
 };
 
 int main(void)

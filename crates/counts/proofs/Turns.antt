@@ -1,21 +1,20 @@
 -- A turn of each loop: one column more, one run more, one counter or set passed.
-use mathlib.Core.List.{map-append}
-use native.Mathlib.Nat.{mul-assoc, mul-le-mul-left, min-eq-right}
 use Rattle.exact.proofs.Ground.{true, false, Bool, cond, _&&_, List, [], _∷_, map, _++_, List·Memᴰ, List·Memᴰ·head, List·Memᴰ·tail}
 use Rattle.exact.proofs.Ground.{List·Memᴰ·eq-of-singleton, _≡_, _∙_, sym, ap, refl, subst, fun-ext, ℕ, _≤_, _<_, _-_, _+_, _*_, suc, zero, min}
 use Rattle.exact.proofs.Ground.{ℕ-discrete, zero-add, mul-pos, le-refl, add-one, arith, eqb, drop-of-length-le, length, getD, take, drop, set}
 use Rattle.exact.proofs.Ground.{length-set, take-at, take-suc, drop-cons, ext-getD, ne-eqb, eq-eqb}
+use mathlib.Core.List.{map-append}
+use native.Mathlib.Nat.{mul-assoc, mul-le-mul-left, min-eq-right}
 use lib.Seq.{getD-set-same, getD-set-other}
-use Rattle.exact.specs.Lists.{from, filledTo, all, alike, count, largest}
+use Rattle.exact.specs.Lists.{from, all, alike, count, largest}
 use Rattle.exact.proofs.Numbers.{from-add, map-from-at}
 use Rattle.exact.proofs.Rooms.{length-numbered}
 use Rattle.exact.proofs.Members.{take-mem}
 use Rattle.exact.proofs.Lists.{count-snoc}
 use Rattle.rules.specs.Plan.{Plan, level, entry, mostRuns}
-use Rattle.sets.specs.Sets.{choose, binom}
-use Rattle.sets.proofs.Pascal.{length-choose}
+use Rattle.sets.specs.Sets.{binom}
 use Rattle.sets.proofs.Parts.{part-mem}
-use Rattle.sets.proofs.Among.{chosen, chosen-part, chosen-front}
+use Rattle.sets.proofs.Among.{chosen, chosen-part}
 use Rattle.plan.specs.Good.{Sound}
 use Rattle.counts.specs.Counts.{even, balanced, strength}
 use Rattle.counts.specs.Numbered.{productOf, numberOf, tallyOf, tallies, Columns}
@@ -48,7 +47,7 @@ module _ {C : Type 0} (level : C → ℕ) where
   product-above J k d limit v h l = sym (min-eq-right (omega (arith, product-next J k d h, product-take (k + 1) J v)))
 
 module _ {R C : Type 0} (level : C → ℕ) (entry : R → C → ℕ) (f : R) where
-  number-snoc : (J : List C) (i : C) → numberOf level entry f (J ++ i ∷ []) ≡ numberOf level entry f J * level i + entry f i
+  pub number-snoc : (J : List C) (i : C) → numberOf level entry f (J ++ i ∷ []) ≡ numberOf level entry f J * level i + entry f i
   number-snoc [] i = omega arith
   number-snoc (j ∷ J) i = rw (product-snoc level J i, number-snoc J i) (omega arith)
 
@@ -78,7 +77,7 @@ module _ {A : Type 0} where
       go false h = omega arith
 
 module _ {A : Type 0} where
-  take-from : (g : ℕ → A) (n k : ℕ) → k ≤ n → take k (map g (from 0 n)) ≡ map g (from 0 k)
+  pub take-from : (g : ℕ → A) (n k : ℕ) → k ≤ n → take k (map g (from 0 n)) ≡ map g (from 0 k)
   take-from g n k h =
       let e : n ≡ k + (n - k) = omega arith in
       ap (λ j. take k (map g (from 0 j))) e
@@ -158,14 +157,6 @@ module _ (cols : List ℕ) (t k : ℕ) (h : k < binom (length cols) t) where
     where
       among : (i : ℕ) → List·Memᴰ i (chosen cols t k) → List·Memᴰ i cols
       among = part-mem (chosen-part cols t k h)
-
-  -- r says of the set at place k whether it is even
-  pub balanced-next : (p : Plan) (rs : List ℕ) (r : Bool) → r ≡ even (level p) (entry p) rs (take t (filledTo 24 0 (chosen cols t k))) →
-      all (drop k (choose t cols)) (even (level p) (entry p) rs) ≡ (r && all (drop (k + 1) (choose t cols)) (even (level p) (entry p) rs))
-  balanced-next p rs r e =
-      all-next (even (level p) (entry p) rs) (choose t cols) k [] (rw (length-choose t cols) h)
-      ∙ ap (λ b. b && all (drop (k + 1) (choose t cols)) (even (level p) (entry p) rs))
-      (sym (e ∙ ap (even (level p) (entry p) rs) (chosen-front cols t k h)))
 
 -- ---- the search from the top
 

@@ -1,9 +1,11 @@
 // For our own crates: counts over some runs of a plan, which each caller has shown to be sound.
 use crate::StrengthAnswer;
+use next_sets::among;
+use next_sets::first_set;
+use next_sets::next_set;
 use plan::routines::several_levels;
 use rules::Refusal;
 use sets::routines::binomial;
-use sets::routines::set_of;
 ghost use mathlib.Core.Path.{_≡_};
 ghost use mathlib.Core.List.{[], _∷_};
 ghost use Prim.Native.Nat.{_+_, _≤_, min};
@@ -102,12 +104,17 @@ pub fn is_balanced(levels: &[u8], table: &[u8], runs: &[usize], columns: &[usize
         ⌜ (let p = plan (now (levels .entry)) (now (table .entry)) in
         r ≡ balanced (level p) (entry p) (now (runs .entry)) (now (columns .entry)) t) ⌝ }
 {
-    let many = binomial(columns.len(), t);
+    let m = columns.len();
+    let many = binomial(m, t);
+    let mut places = [0usize; 24];
+    let mut set = [0usize; 24];
+    first_set(&mut places, t);
     for k in 0..many {
-        let set = set_of(columns, t, k);
+        among(columns, &places[..t], &mut set);
         if !is_even(levels, table, runs, &set[..t]) {
             return false;
         }
+        next_set(&mut places, t, m);
     }
     true
 }

@@ -31,5 +31,5 @@ pub(crate) fn diagonal_of(held: Held) -> [i64; 24]
 {
     let columns = held.columns;
     let levels = held.levels;
-    words::routines::diagonal(&levels[..columns])
+    pairs::routines::diagonal(&levels[..columns])
 }

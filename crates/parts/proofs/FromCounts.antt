@@ -40,7 +40,7 @@ module _ {A : Type 0} where
   shifted F a (suc n) = ap (λ l. F (suc a) ∷ l) (shifted F (suc a) n)
 
 module _ {R : Type 0} (s : ℕ) (a b : R → ℕ) (rest : List ℕ) where
-  longer-map : (rs : List R) → longer s (map a rs) (map b rs ++ rest) ≡ map (λ f. a f * s + b f) rs
+  pub longer-map : (rs : List R) → longer s (map a rs) (map b rs ++ rest) ≡ map (λ f. a f * s + b f) rs
   longer-map [] = refl
   longer-map (f ∷ rs) =
       ap (λ l. (a f * s + b f) ∷ l)

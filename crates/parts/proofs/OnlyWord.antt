@@ -1,13 +1,11 @@
 -- Columns of which the runs have no word but that of all of them, as every set of R columns is: W(I) is the product of the levels times
--- the squared counts, less n²; it is at most n²(s - 1) for each level s; and there is a counter for each combination.
+-- the squared counts, less n²; it is at most n²(s - 1) for each level s; and there are at most 16 combinations a run.
 use Rattle.exact.proofs.Ground.{List, [], _∷_, map, _++_, List·Memᴰ, List·Memᴰ·head, List·Memᴰ·tail, List·Memᴰ·not-nil, _≡_, _∙_, sym, ap, refl}
-use Rattle.exact.proofs.Ground.{subst, ℕ, _≤_, _<_, _-_, _+_, _*_, min, decLe, le-trans, mul-le-mul, arith, pos, ℤ, natAbs, _*ℤ_, _+ℤ_, _-ℤ_, +ℤ-idr}
-use Rattle.exact.proofs.Ground.{length, take, replicate, length-map, take-at, _≤ℤ_, ne-eqb}
-use native.Mathlib.Nat.{min-eq-left}
+use Rattle.exact.proofs.Ground.{subst, ℕ, _≤_, _<_, _-_, _+_, _*_, _+ℤ_, +ℤ-idr, decLe, le-trans, mul-le-mul, arith, pos, ℤ, _*ℤ_, _-ℤ_, length, _≤ℤ_, ne-eqb}
 use lib.IntN.{+ℤ-negℤ-cancel}
-use Rattle.exact.specs.Lists.{from, filledTo, sum, prod}
-use Rattle.exact.proofs.Numbers.{from-add, mem-from, mul-below}
-use Rattle.exact.proofs.Sums.{sum-cong, sum-cong-in, sum-0, sum-++, sum-map}
+use Rattle.exact.specs.Lists.{from, sum, prod}
+use Rattle.exact.proofs.Numbers.{mem-from, from-add}
+use Rattle.exact.proofs.Sums.{sum-cong, sum-cong-in, sum-0, sum-map, sum-++}
 use Rattle.exact.proofs.Tests.{false-is}
 use Rattle.rules.specs.Plan.{Plan, level, entry, mostRuns, highestLevel}
 use Rattle.sets.specs.Sets.{choose}
@@ -15,17 +13,15 @@ use Rattle.sets.proofs.Parts.{Part, skip, keep, part-length, part-trans, part-c
 use Rattle.plan.specs.Good.{Sound}
 use Rattle.words.specs.Words.{wordOf, word}
 use Rattle.counts.specs.Counts.{combinations, tally}
-use Rattle.counts.specs.Numbered.{productOf, numberOf, tallyOf, Columns, mostNumbers}
-use Rattle.parts.specs.Parts.{squaredCounts, times, squaresOf, NoneShorter, OnlyWord}
+use Rattle.counts.specs.Numbered.{productOf, numberOf, tallyOf, mostNumbers, Columns}
+use Rattle.parts.specs.Parts.{squaresOf, squaredCounts, times, NoneShorter, OnlyWord}
 use Rattle.counts.proofs.Numbered.{Below, number-below, tallies-numbered}
 use Rattle.counts.proofs.Counted.{too-many}
 use Rattle.counts.proofs.Balance.{Even→even}
 use Rattle.words.specs.Entries.{AllBelow}
-use Rattle.counts.proofs.Turns.{all-below}
 use Rattle.counts.proofs.Wordless.{parts→even, word-zero}
 use Rattle.counts.proofs.Ceiling.{agreeing-first, ceiling}
 use Rattle.parts.proofs.WordCounts.{agreeing-counts}
-use Rattle.parts.proofs.Squared.{squares-bound}
 
 -- a member, and what stands before and after it
 module _ {A : Type 0} where
@@ -84,11 +80,11 @@ module _ {R C : Type 0} (level : C → ℕ) (entry : R → C → ℕ) (runs : Li
       ∙ ap (λ z. z -ℤ n²)
       (sym (agreeing-first level entry runs i K (with-first i K v none) (others i K v none)) ∙ agreeing-counts level entry runs (i ∷ K) v)
 
-  -- so there are at most 4,096 combinations, however many columns
-  pub only-few : (I : List C) → AllBelow level entry runs I → NoneShorter level entry runs I (length I) → 0 < length runs → length runs ≤ mostRuns →
-      ((i : C) → List·Memᴰ i I → level i ≤ highestLevel) → productOf level I ≤ highestLevel * mostRuns
-  only-few [] v none h few high = omega arith
-  only-few (i ∷ K) v none h few high = mul-le-mul (high i (List·Memᴰ·head refl)) (le-trans (others-few i K v none h) few)
+  -- so there are at most 16 combinations a run, however many columns
+  pub only-few : (I : List C) → AllBelow level entry runs I → NoneShorter level entry runs I (length I) → 0 < length runs →
+      ((i : C) → List·Memᴰ i I → level i ≤ highestLevel) → productOf level I ≤ highestLevel * length runs
+  only-few [] v none h high = omega arith
+  only-few (i ∷ K) v none h high = mul-le-mul (high i (List·Memᴰ·head refl)) (others-few i K v none h)
 
   -- every set of so many columns is one
   pub chosen-only : (cols : List C) → AllBelow level entry runs cols → (size : ℕ) → NoneShorter level entry runs cols size → (I : List C) →
@@ -107,7 +103,7 @@ module _ {R C : Type 0} (level : C → ℕ) (entry : R → C → ℕ) (runs : Li
     abbrev numbers : List R → List ℕ
     numbers rs = map (λ f. numberOf level entry f I) rs
 
-    times-tally : (rs : List R) (k : ℕ) → times (numbers rs) k ≡ tallyOf level entry rs I k
+    pub times-tally : (rs : List R) (k : ℕ) → times (numbers rs) k ≡ tallyOf level entry rs I k
     times-tally [] k = refl
     times-tally (f ∷ rs) k = rw (times-tally rs k)
 
@@ -123,7 +119,7 @@ module _ {R C : Type 0} (level : C → ℕ) (entry : R → C → ℕ) (runs : Li
     square n = pos n *ℤ pos n
 
     -- the combinations, by their numbers
-    by-number : squaredCounts level entry runs I ≡ sum (from 0 (productOf level I)) (λ k. square (tallyOf level entry runs I k))
+    pub by-number : squaredCounts level entry runs I ≡ sum (from 0 (productOf level I)) (λ k. square (tallyOf level entry runs I k))
     unfolding squaredCounts
     by-number =
         sym (sum-map (tally entry runs I) (combinations level I) square)
@@ -146,7 +142,7 @@ module _ {R C : Type 0} (level : C → ℕ) (entry : R → C → ℕ) (runs : Li
         ∙ +ℤ-idr (sum (from 0 P) S)
         ∙ sym by-number
 
-  product-levels : (I : List C) → prod I (λ i. pos (level i)) ≡ pos (productOf level I)
+  pub product-levels : (I : List C) → prod I (λ i. pos (level i)) ≡ pos (productOf level I)
   product-levels [] = refl
   product-levels (i ∷ I) = ap (λ z. pos (level i) *ℤ z) (product-levels I)
 
@@ -156,30 +152,5 @@ module _ (p : Plan) (rs I : List ℕ) (S : Sound p rs) (K : Columns (p .levels) 
   below : AllBelow (level p) (entry p) rs I
   below i m = (K .low i m, λ f n. S .below f n i (K .inside i m))
 
-  pub few-combinations : productOf (level p) I ≤ mostNumbers
-  few-combinations =
-      omega (arith, only-few (level p) (entry p) rs I below (O .none-shorter) (O .runs) (S .few) (λ i m. S .level-high i (K .inside i m)))
-
-  -- the numbers of the runs
-  abbrev pub numbersOf : List ℕ
-  numbersOf = numbers (level p) (entry p) rs I (all-below p rs I S K) rs
-
-  pub numbers-front : take (length rs) (filledTo 256 0 numbersOf) ≡ numbersOf
-  numbers-front =
-      take-at numbersOf (replicate (256 - length numbersOf) 0) (length rs) (length-map rs (λ f. numberOf (level p) (entry p) f I))
-
-  -- what the routine finds: the product x, the squares z
-  module _ (x : ℕ) (z : ℤ) (e : x ≡ min (productOf (level p) I) (mostNumbers + 1)) (d : z ≡ squaresOf numbersOf) where
-    product-found : x ≡ productOf (level p) I
-    product-found = e ∙ min-eq-left (let h = few-combinations in omega arith)
-
-    pub squares-found : natAbs z ≤ mostRuns * mostRuns
-    squares-found =
-        rw d (le-trans (squares-bound numbersOf)
-        (rw (length-map rs (λ f. numberOf (level p) (entry p) f I)) (mul-below (length rs) (length rs) mostRuns mostRuns (S .few) (S .few))))
-
-    pub only-found : pos x *ℤ z -ℤ pos (length rs * length rs) ≡ wordOf (level p) (entry p) rs I
-    only-found =
-        rw (product-found, d, only-numbers (level p) (entry p) rs I (all-below p rs I S K) few-combinations)
-        (ap (λ y. y *ℤ squaredCounts (level p) (entry p) rs I -ℤ pos (length rs * length rs)) (sym (product-levels (level p) (entry p) rs I))
-        ∙ sym (only-squares (level p) (entry p) rs I below (O .none-shorter) (O .columns)))
+  pub few-combinations : productOf (level p) I ≤ highestLevel * length rs
+  few-combinations = only-few (level p) (entry p) rs I below (O .none-shorter) (O .runs) (λ i m. S .level-high i (K .inside i m))

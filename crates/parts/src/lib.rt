@@ -1,8 +1,5 @@
 // For our own crates: W(I) from counts. Of a set of up to 4 columns it is the sum, over all parts of the set, of the product of a part's
-// levels times its squared combination counts, minus where an odd number of columns is left out. Where no smaller part has a word, only
-// the set itself and the empty part are left of that sum, and the set may have any number of columns.
-use counts::routines::combination;
-use counts::routines::product_of;
+// levels times its squared combination counts, minus where an odd number of columns is left out.
 use exact::signed;
 ghost use mathlib.Core.Path.{_≡_};
 ghost use mathlib.Core.List.{[], map};
@@ -14,11 +11,8 @@ ghost use Rattle.exact.specs.Lists.{filledTo};
 ghost use Rattle.rules.specs.Plan.{plan, level, entry, mostRuns};
 ghost use Rattle.plan.specs.Good.{Sound};
 ghost use Rattle.words.specs.Words.{wordOf};
-ghost use Rattle.counts.specs.Numbered.{mostNumbers, productOf, numberOf, Columns};
-ghost use Rattle.parts.specs.Parts.{counted, squaresOf, sign, longer, overParts, Weighed, turned, OnlyWord};
-
-// The counters, one for each combination of 4 columns of 16 levels.
-const MOST_NUMBERS: usize = 65536;
+ghost use Rattle.counts.specs.Numbered.{mostNumbers, Columns};
+ghost use Rattle.parts.specs.Parts.{counted, squaresOf, sign, longer, overParts, Weighed, turned};
 
 // Counts the numbers, and adds up the squares of the counts: where a count goes from c to c + 1, its square grows by 2c + 1.
 fn count(numbers: &[u16], counters: &mut [u16; 65536]) -> u64
@@ -61,7 +55,7 @@ fn squares(numbers: &[u16], counters: &mut [u16; 65536]) -> i64
 }
 
 // Each number with one digit more, of a column of so many levels.
-fn longer(numbers: &[u16], level: u8, digits: &[u8]) -> [u16; 256]
+pub fn longer(numbers: &[u16], level: u8, digits: &[u8]) -> [u16; 256]
     requires { ⌜ (length (now numbers) ≤ mostRuns) × (length (now numbers) ≤ length (now digits)) ⌝ }
     requires { ⌜ ((k : ℕ) → k < length (now numbers) → getD (now numbers) k 0 * level + getD (now digits) k 0 < mostNumbers) ⌝ }
     ensures { λ r. ⌜ r ≡ filledTo 256 0 (longer level (now (numbers .entry)) (now (digits .entry))) ⌝ }
@@ -103,7 +97,7 @@ fn over_parts(
 }
 
 // Puts the entries of the runs in a column into the room, from place `at` on.
-fn turn_column(
+pub fn turn_column(
     levels: &[u8],
     table: &[u8],
     runs: &[usize],
@@ -123,18 +117,29 @@ fn turn_column(
     }
 }
 
-// The entries of the runs in the columns, column after column.
+// The entries of the runs in the columns, column after column, in the front of an empty room.
+pub fn turn_columns(levels: &[u8], table: &[u8], runs: &[usize], columns: &[usize], room: &mut [u8])
+    requires { ⌜ Sound (plan (now levels) (now table)) (now runs) ⌝ }
+    requires { ⌜ Columns (now levels) (now columns) × (length (now columns) * length (now runs) ≤ length (now room)) ⌝ }
+    requires { ⌜ now room ≡ filledTo (length (now room)) 0 [] ⌝ }
+    ensures { λ _. ⌜ (let p = plan (now (levels .entry)) (now (table .entry)) in
+        now (room .exit) ≡ filledTo (length (now (room .entry))) 0 (turned (entry p) (now (runs .entry)) (now (columns .entry)))) ⌝ }
+{
+    let n = runs.len();
+    for t in 0..columns.len() {
+        turn_column(levels, table, runs, columns[t], t * n, room);
+    }
+}
+
+// The same, of up to 4 columns.
 fn turned(levels: &[u8], table: &[u8], runs: &[usize], columns: &[usize]) -> [u8; 1024]
     requires { ⌜ Sound (plan (now levels) (now table)) (now runs) ⌝ }
     requires { ⌜ Columns (now levels) (now columns) × (length (now columns) ≤ 4) ⌝ }
     ensures { λ r. ⌜ (let p = plan (now (levels .entry)) (now (table .entry)) in
         r ≡ filledTo 1024 0 (turned (entry p) (now (runs .entry)) (now (columns .entry)))) ⌝ }
 {
-    let n = runs.len();
     let mut room = [0u8; 1024];
-    for t in 0..columns.len() {
-        turn_column(levels, table, runs, columns[t], t * n, &mut room);
-    }
+    turn_columns(levels, table, runs, columns, &mut room);
     room
 }
 
@@ -166,43 +171,4 @@ pub fn word(
     let numbers = [0u16; 256];
     let weight = sign(columns.len());
     over_parts(levels, columns, &digits, &numbers[..n], weight, counters)
-}
-
-// The numbers of the combinations that the runs have in the columns.
-fn numbers(levels: &[u8], table: &[u8], runs: &[usize], columns: &[usize]) -> [u16; 256]
-    requires { ⌜ Sound (plan (now levels) (now table)) (now runs) ⌝ }
-    requires { ⌜ Columns (now levels) (now columns) ⌝ }
-    requires { ⌜ productOf (level (plan (now levels) (now table))) (now columns) ≤ mostNumbers ⌝ }
-    ensures { λ r. ⌜ (let p = plan (now (levels .entry)) (now (table .entry)) in
-        r ≡ filledTo 256 0 (map (λ f. numberOf (level p) (entry p) f (now (columns .entry))) (now (runs .entry)))) ⌝ }
-{
-    let mut room = [0u16; 256];
-    for k in 0..runs.len() {
-        room[k] = combination(levels, table, runs[k], columns) as u16;
-    }
-    room
-}
-
-// W(I) of columns that have no other word: the product of their levels times their squared counts, less n². One pass over the runs.
-pub fn only_word(
-    levels: &[u8],
-    table: &[u8],
-    runs: &[usize],
-    columns: &[usize],
-    counters: &mut [u16; 65536],
-) -> i64
-    requires { ⌜ Sound (plan (now levels) (now table)) (now runs) ⌝ }
-    requires { ⌜ Columns (now levels) (now columns) ⌝ }
-    requires { ⌜ OnlyWord (plan (now levels) (now table)) (now runs) (now columns) ⌝ }
-    requires { ⌜ now counters ≡ counted [] ⌝ }
-    ensures word { λ r. ⌜ (let p = plan (now (levels .entry)) (now (table .entry)) in
-        r ≡ wordOf (level p) (entry p) (now (runs .entry)) (now (columns .entry))) ⌝ }
-    ensures counters { λ _. ⌜ now (counters .exit) ≡ counted [] ⌝ }
-{
-    let n = runs.len();
-    let product = product_of(levels, columns, MOST_NUMBERS);
-    let numbers = numbers(levels, table, runs, columns);
-    let squares = squares(&numbers[..n], counters);
-    let agreeing = signed::mul(signed::of_size(product), squares);
-    signed::sub(agreeing, signed::of_size(n * n))
 }

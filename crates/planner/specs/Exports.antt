@@ -9,9 +9,9 @@ use Rattle.rules.specs.Refusals.{numberOr}
 use Rattle.projection_tables.specs.Tables.{Rooms, tableAnswer, tableRooms}
 use Rattle.marked.specs.Marked.{markedRuns, ofMarked}
 
--- 10000 times the major number, 100 times the minor one, and the patch: 0.10.0
+-- 10000 times the major number, 100 times the minor one, and the patch: 0.11.0
 abbrev pub version : ℕ
-version = 1000
+version = 1100
 
 -- whether a C program asks for the relative table: any number but 0
 abbrev pub isRelative : ℕ → Bool

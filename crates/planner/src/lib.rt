@@ -20,7 +20,7 @@ ghost use Rattle.planner.specs.Exports.{version, tableNumber, tableFille
 pub extern "C" fn crumb_version() -> u64
     ensures { λ r. ⌜ r ≡ version ⌝ }
 {
-    1000
+    1100
 }
 
 // The scaled word of one length, or the refusal number negated.

@@ -1,7 +1,9 @@
 pub mod Tables
 pub mod Shifts
 pub mod Lines
+pub mod Halves
 pub mod Walks
+pub mod SetWalk
 pub mod Unique
 pub mod Answers
 pub mod BelowResolution

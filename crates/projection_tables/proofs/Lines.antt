@@ -84,7 +84,7 @@ module _ (room : List ℕ) (used : ℕ) (h : used ≤ length room) (g : Line →
   room-put : (k : ℕ) (y : Line) → into (putBefore k (g y) (take used room)) room ≡ into (map g (putBefore k y ls)) room
   room-put k y = ap (λ xs. into xs room) (sym (map-put g k y ls ∙ ap (putBefore k (g y)) e))
 
-rooms-eq : {a b c a′ b′ c′ : List ℕ} → a ≡ a′ → b ≡ b′ → c ≡ c′ → rooms a b c ≡ rooms a′ b′ c′
+pub rooms-eq : {a b c a′ b′ c′ : List ℕ} → a ≡ a′ → b ≡ b′ → c ≡ c′ → rooms a b c ≡ rooms a′ b′ c′
 rooms-eq p q r = cc
 
 -- ---- one set more in three rooms, at the place that the search finds

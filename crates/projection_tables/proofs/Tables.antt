@@ -17,10 +17,10 @@ use Rattle.projection_tables.specs.Properties.{Below, Rising, countedIn,
 clash : {X : Type 0} {u v w : Verdict} → u ≡ v → u ≡ w → isEqual v ≡ true → isEqual w ≡ false → X
 clash p q e f = absurd (let z : true ≡ false = cc in subst (λ b. cond b (Unit {0}) ⊥) z tt)
 
-abbrev Proper : Fraction → Type 0
+abbrev pub Proper : Fraction → Type 0
 Proper x = 0 < x .den
 
-abbrev EachProper : List Fraction → Type 0
+abbrev pub EachProper : List Fraction → Type 0
 EachProper xs = (x : Fraction) → List·Memᴰ x xs → Proper x
 
 -- ---- a value put among rising values

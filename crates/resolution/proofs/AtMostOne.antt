@@ -17,7 +17,7 @@ use Rattle.set_words.specs.SetWords.{relativeOf}
 use Rattle.set_words.proofs.Values.{smallest-mem}
 use Rattle.resolution.specs.Resolution.{resolution, largestRatio, ratioIn}
 use Rattle.resolution.proofs.Resolved.{resolution-is}
-use Rattle.resolution.proofs.Greatest.{greatest-of}
+use Rattle.ratios.proofs.Greatest.{greatest-of}
 use Rattle.resolution.proofs.Agreement.{word-at-most, all-below}
 
 less-one : (s : ℕ) → 1 ≤ s → pos s -ℤ pos 1 ≡ pos (s - 1)

@@ -1,7 +1,6 @@
--- The greatest fraction is one of them, or 0/1, and none of them is greater. One fraction more is one comparison.
-use Rattle.exact.proofs.Ground.{true, false, Bool, cond, List, [], _∷_, _++_, List·Memᴰ, List·Memᴰ·head, List·Memᴰ·not-nil, Memᴰ·append-left}
-use Rattle.exact.proofs.Ground.{Memᴰ·append-right, List·Memᴰ·append-cases, List·Memᴰ·eq-of-singleton, _⊎_, inl, inr, _≡_, _∙_, sym, ap, refl, subst}
-use Rattle.exact.proofs.Ground.{_<_, _*_, arith}
+-- The greatest fraction is one of them, or 0/1, and none of them is greater.
+use Rattle.exact.proofs.Ground.{false, cond, List, [], _∷_, _++_, List·Memᴰ, List·Memᴰ·head, List·Memᴰ·not-nil, Memᴰ·append-left, Memᴰ·append-right}
+use Rattle.exact.proofs.Ground.{List·Memᴰ·append-cases, List·Memᴰ·eq-of-singleton, _⊎_, inl, inr, _≡_, _∙_, sym, ap, refl, subst, _<_, _*_, arith}
 use Rattle.exact.specs.Fractions.{zeroFraction, smallerFraction, isBetter}
 use Rattle.exact.specs.declared.fractions.Fraction.{Fraction}
 use Rattle.exact.specs.declared.fractions.Verdict.{Verdict}
@@ -12,29 +11,9 @@ use Rattle.exact.specs.Lawful.{opposite}
 use Rattle.exact.proofs.Verdicts.{lt-smaller}
 use Rattle.set_words.specs.Properties.{IsReduced}
 use Rattle.set_words.proofs.Reduced.{zero-reduced, equal-reduced}
-use Rattle.resolution.specs.Resolution.{greater, greatestFrom, greatest}
+use Rattle.ratios.specs.Ratios.{greater, greatest}
+use Rattle.ratios.proofs.Greatest.{greatest-none, greatest-snoc}
 use Rattle.resolution.specs.Properties.{IsGreatest}
-
-from-snoc : (x : Fraction) (ys : List Fraction) (y : Fraction) → greatestFrom x (ys ++ y ∷ []) ≡ greater (greatestFrom x ys) y
-from-snoc x [] y = refl
-from-snoc x (z ∷ ys) y = from-snoc (greater x z) ys y
-
-pub greatest-none : zeroFraction ≡ greatest []
-unfolding greatest
-greatest-none = refl
-
--- a loop's turn
-pub greatest-snoc : (xs : List Fraction) (x : Fraction) → greatest (xs ++ x ∷ []) ≡ greater (greatest xs) x
-unfolding greatest
-greatest-snoc xs x = from-snoc zeroFraction xs x
-
--- what holds of both fractions holds of the greater
-pub greater-of : (P : Fraction → Type 0) (x y : Fraction) → P x → P y → P (greater x y)
-greater-of P x y p q = go (isBetter (smallerFraction x y))
-  where
-    go : (b : Bool) → P (cond b y x)
-    go true = q
-    go false = p
 
 abbrev EachProper : List Fraction → Type 0
 EachProper xs = (x : Fraction) → List·Memᴰ x xs → 0 < x .den
@@ -94,15 +73,6 @@ greatest-is =
     grown (λ xs. EachProper xs → IsGreatest xs (greatest xs))
     (λ h. record { among = inl (sym greatest-none); none-above = λ x m. absurd (List·Memᴰ·not-nil m) })
     (λ xs x ih h. rw (greatest-snoc xs x) (next xs x (greatest xs) h (ih (λ y m. h y (Memᴰ·append-left (x ∷ []) m)))))
-
--- what holds of 0/1 and of each holds of the greatest
-pub greatest-of : (P : Fraction → Type 0) (xs : List Fraction) → P zeroFraction → ((x : Fraction) → List·Memᴰ x xs → P x) → P (greatest xs)
-greatest-of P xs z =
-    grown (λ xs. ((x : Fraction) → List·Memᴰ x xs → P x) → P (greatest xs)) (λ h. subst P greatest-none z)
-    (λ xs x ih h.
-    rw (greatest-snoc xs x)
-    (greater-of P (greatest xs) x (ih (λ y m. h y (Memᴰ·append-left (x ∷ []) m))) (h x (Memᴰ·append-right xs (List·Memᴰ·head refl)))))
-    xs
 
 -- ---- and it is told by that: of fractions in lowest terms there is only one
 

@@ -14,11 +14,12 @@ use Rattle.sets.proofs.Choose.{choose-keep}
 use Rattle.words.proofs.OneLevel.{holds-one}
 use Rattle.set_words.specs.SetWords.{relativeOf}
 use Rattle.set_words.proofs.Values.{relative-one}
-use Rattle.resolution.specs.Resolution.{greater, greatestFrom, greatest, resolutionIn}
-use Rattle.resolution.specs.Given.{ratiosOf}
+use Rattle.resolution.specs.Resolution.{greatest, resolutionIn}
+use Rattle.ratios.specs.Ratios.{ratiosOf}
 use Rattle.resolution.specs.Charts.{figureOf, columnRatio}
 use Rattle.resolution.specs.declared.Figure.the-variants.{Clear}
-use Rattle.resolution.proofs.Greatest.{greatest-of}
+use Rattle.ratios.specs.Ratios.{greater, greatestFrom}
+use Rattle.ratios.proofs.Greatest.{greatest-of}
 
 greater-zero : (x : Fraction) → greater x zeroFraction ≡ x
 unfolding smallerFraction

@@ -17,12 +17,13 @@ use Rattle.set_words.specs.Given.{Tabled}
 use Rattle.set_words.proofs.Products.{part-projection}
 use Rattle.resolution.specs.Resolution.{resolutionIn, ratioIn, resolutionChecks, largestRatio}
 use Rattle.resolution.specs.Charts.{columnRatio, columnChecks}
-use Rattle.resolution.specs.Given.{Measured, wordIn, firstAbove, ratiosOf, refusing, measures, measuresBeside, ratingBeside, Small}
+use Rattle.ratios.specs.Ratios.{ratiosOf}
+use Rattle.resolution.specs.Given.{Measured, wordIn, firstAbove, refusing, measures, measuresBeside, ratingBeside, Small}
 use Rattle.resolution.proofs.Resolved.{resolution-is, resolution-words}
 use Rattle.resolution.proofs.Walk.{ratios-small}
 use Rattle.resolution.proofs.AtMostOne.{ratio-at-most-one}
 use Rattle.resolution.specs.declared.routines.Rating.{Rating}
-use Rattle.resolution.specs.declared.routines.Ratios.{Ratios}
+use Rattle.ratios.specs.declared.Ratios.{Ratios}
 
 -- ---- the words of a list, whatever the length
 

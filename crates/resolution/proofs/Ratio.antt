@@ -16,7 +16,7 @@ use Rattle.resolution.specs.Charts.{columnRatio}
 use Rattle.resolution.specs.Properties.{IsGreatest}
 use Rattle.resolution.proofs.Greatest.{greatest-is, greatest-unique}
 use Rattle.resolution.proofs.Resolved.{resolution-is}
-use Rattle.resolution.proofs.Walk.{set-projection}
+use Rattle.ratios.proofs.Walks.{set-projection}
 
 module _ (p : Plan) (rs : List ℕ) (G : Tabled p rs) where
   -- the relative values of some of the sets of R columns

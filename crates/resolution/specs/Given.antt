@@ -24,7 +24,6 @@ use Rattle.resolution.specs.declared.Chart.{Chart}
 use Rattle.resolution.specs.declared.ChartAnswer.{ChartAnswer}
 use Rattle.resolution.specs.declared.Figure.the-variants.{Clear}
 use Rattle.resolution.specs.declared.FigureAnswer.{FigureAnswer}
-use Rattle.resolution.specs.declared.routines.Ratios.{Ratios}
 use Rattle.resolution.specs.declared.routines.Rating.{Rating}
 
 -- some runs of a plan, and their words
@@ -43,13 +42,6 @@ isAbove words j = ltZ (pos 0) (getD words (j - 1) (pos 0))
 -- the first of the lengths 1 to m whose word is above zero, and m + 1 where there is none
 abbrev pub firstAbove : List ℤ → ℕ → ℕ
 firstAbove words m = first (isAbove words) 1 m
-
--- the greatest relative value of the sets, and of those that hold column i
-unfoldable pub ratiosOf : Plan → List ℕ → List (List ℕ) → ℕ → Ratios
-ratiosOf p rs sets i = record {
-  largest = greatest (map (relativeOf (level p) (entry p) rs) sets);
-  held = greatest (map (relativeOf (level p) (entry p) rs) (keep (holds i) sets));
-}
 
 -- ---- what every answer is made of
 

@@ -15,21 +15,9 @@ use Rattle.rules.specs.Refusals.{Check, refusal, unless, noResolution}
 use Rattle.sets.specs.Sets.{choose}
 use Rattle.words.specs.Words.{word}
 use Rattle.set_words.specs.SetWords.{relativeOf}
+unfoldable pub use Rattle.ratios.specs.Ratios.{greatest}
 use Rattle.resolution.specs.declared.ResolutionAnswer.{ResolutionAnswer}
 use Rattle.resolution.specs.declared.GeneralizedAnswer.{GeneralizedAnswer}
-
--- the greater of two fractions; of equal ones the first
-abbrev pub greater : Fraction → Fraction → Fraction
-greater x y = cond (isBetter (smallerFraction x y)) y x
-
--- the greatest of x and the fractions
-abbrev pub greatestFrom : Fraction → List Fraction → Fraction
-greatestFrom x [] = x
-greatestFrom x (y ∷ ys) = greatestFrom (greater x y) ys
-
--- the greatest of the fractions, and 0/1 where there is none
-unfoldable pub greatest : List Fraction → Fraction
-greatest xs = greatestFrom zeroFraction xs
 
 -- q, the smallest whole number for which q² · den is at least 1,000,000 · num; the largest ratio is at most 1 (`ratio-at-most-one`), so q is at most 1000
 unfoldable pub rootOf : Fraction → ℕ

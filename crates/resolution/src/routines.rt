@@ -1,32 +1,22 @@
 // For our own crates: R and the ratios of some runs of a plan, and what the answers are made of. The runs that stand are such a list.
 use exact::fractions::Fraction;
-use exact::fractions::Verdict;
-use exact::fractions::smaller_fraction;
 use exact::signed;
 use plan::routines::several_levels;
+use ratios::Ratios;
+use ratios::ratios_of;
 use rules::Refusal;
 use rules::sizes::MOST_COLUMNS;
-use set_words::routines::ratio;
-use sets::routines::binomial;
-use sets::routines::holds;
-use sets::routines::set_of;
 ghost use mathlib.Core.Path.{_≡_};
 ghost use Prim.Native.Nat.{_≤_};
 ghost use lib.ListN.{length};
-ghost use Rattle.exact.specs.Fractions.{ShortDenominator};
 ghost use Rattle.rules.specs.Plan.{plan, columns, level, entry, everyRun, everyColumn, mostColumns};
 ghost use Rattle.rules.specs.Refusals.{refusal, planChecks};
-ghost use Rattle.sets.specs.Sets.{choose, setsOf};
+ghost use Rattle.sets.specs.Sets.{setsOf};
 ghost use Rattle.parts.specs.Parts.{NoneShorter};
-ghost use Rattle.set_words.specs.Given.{Projection, Tabled};
-ghost use Rattle.resolution.specs.Resolution.{greater, resolutionChecks};
-ghost use Rattle.resolution.specs.Given.{Measured, wordIn, firstAbove, ratiosOf, refusing, measuresBeside, ratingBeside};
-
-// The largest ratio of some sets of columns, and that of those among them that hold one column.
-pub struct Ratios {
-    pub largest: Fraction,
-    pub held: Fraction,
-}
+ghost use Rattle.set_words.specs.Given.{Tabled};
+ghost use Rattle.ratios.specs.Ratios.{ratiosOf};
+ghost use Rattle.resolution.specs.Resolution.{resolutionChecks};
+ghost use Rattle.resolution.specs.Given.{Measured, wordIn, firstAbove, refusing, measuresBeside, ratingBeside};
 
 // What every answer is made of: the columns m, the pairs n², R, the words W_R and W_(R+1), the largest ratio and a column's.
 pub struct Rating {
@@ -55,52 +45,7 @@ pub fn resolution(words: &[i64; 24], m: usize) -> usize
     j // m + 1: no word is above zero
 }
 
-// The greater of two fractions; of equal ones the first.
-fn greater(x: Fraction, y: Fraction) -> Fraction
-    requires { ⌜ (ShortDenominator x) × (ShortDenominator y) ⌝ }
-    ensures { λ r. ⌜ r ≡ greater x y ⌝ }
-{
-    match smaller_fraction(x, y) {
-        Verdict::Better => y,
-        Verdict::Worse => x,
-        Verdict::Equal => x,
-    }
-}
-
-// The largest ratio of the sets of `size` of these columns, which have no shorter word, and of those that hold the column: one walk over
-// the sets.
-fn ratios_of(
-    levels: &[u8],
-    table: &[u8],
-    runs: &[usize],
-    columns: &[usize],
-    size: usize,
-    column: usize,
-) -> Ratios
-    requires { ⌜ Tabled (plan (now levels) (now table)) (now runs)
-        × (Projection (plan (now levels) (now table)) (now columns) × (length (now columns) ≤ mostColumns)) ⌝ }
-    requires { ⌜ (1 ≤ size) × (size ≤ mostColumns) ⌝ }
-    requires { ⌜ (let p = plan (now levels) (now table) in NoneShorter (level p) (entry p) (now runs) (now columns) size) ⌝ }
-    ensures { λ r.
-        ⌜ (let p = plan (now (levels .entry)) (now (table .entry)) in
-        r ≡ ratiosOf p (now (runs .entry)) (choose size (now (columns .entry))) column) ⌝ }
-{
-    let many = binomial(columns.len(), size);
-    let mut counters = [0u16; 65536];
-    let mut largest = Fraction { num: 0, den: 1 };
-    let mut held = Fraction { num: 0, den: 1 };
-    for k in 0..many {
-        let set = set_of(columns, size, k);
-        let ratio = ratio(levels, table, runs, &set[..size], &mut counters);
-        largest = greater(largest, ratio);
-        if holds(&set[..size], column) {
-            held = greater(held, ratio);
-        }
-    }
-    Ratios { largest, held }
-}
-
-// The same of all columns. A set with a column of one level has the ratio zero, which is never the greater: such sets are not walked.
+// The largest ratio of the sets of `size` columns, which have no shorter word, and of those that hold the column. A set with a column of one level has the ratio zero, which is never the greater: such sets are not walked.
 pub fn largest_ratios(
     levels: &[u8],
     table: &[u8],

@@ -1,9 +1,9 @@
 // For our own crates: the words of some runs of a plan, each named by its number, and what is refused because of them.
+use pairs::routines::add_to;
+use pairs::routines::diagonal;
 use resolution::routines::resolution;
 use rules::Refusal;
-use words::routines::add_to;
 use words::routines::both_orders;
-use words::routines::diagonal;
 use words::routines::row;
 ghost use mathlib.Core.Path.{_≡_};
 ghost use mathlib.Core.Bool.{true};

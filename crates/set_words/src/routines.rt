@@ -17,18 +17,15 @@ ghost use Rattle.rules.specs.Plan.{plan, level, entry, mostRuns, highestLevel};
 ghost use Rattle.rules.specs.Refusals.{refusal, orElse};
 ghost use Rattle.plan.specs.Good.{Sound};
 ghost use Rattle.words.specs.Words.{wordOf};
-ghost use Rattle.parts.specs.Parts.{counted, OnlyWord};
+ghost use Rattle.parts.specs.Parts.{counted};
 ghost use Rattle.set_words.specs.Given.{Projection, Starts, Tabled, SomeColumns, scoreProduct, pairOf, overPairs};
-ghost use Rattle.set_words.specs.SetWords.{relativeOf, valueIn, setWordChecks, setWordBeside};
+ghost use Rattle.set_words.specs.SetWords.{valueIn, setWordChecks, setWordBeside};
 
 // Up to so many columns there is a counter for every combination.
 const MOST_COUNTED: usize = 4;
 
 // Below so many runs one word is quicker by pairs, since the counters have to be made for it.
 const FEW_RUNS: usize = 48;
-
-// Below so many runs a word is quicker by pairs, even where the counters are there.
-const FEW_RUNS_OF_A_WALK: usize = 16;
 
 // The product of the scores in the columns, for the runs that start at places a and b of the table.
 fn pair_product(levels: &[u8], table: &[u8], a: usize, b: usize, columns: &[usize]) -> i64
@@ -41,7 +38,7 @@ fn pair_product(levels: &[u8], table: &[u8], a: usize, b: usize, columns: &[usiz
     while 0 < k {
         k -= 1;
         let i = columns[k];
-        let score = words::routines::score(levels[i], table[a + i], table[b + i]);
+        let score = pairs::routines::score(levels[i], table[a + i], table[b + i]);
         product = signed::mul(score, product);
     }
     product
@@ -112,29 +109,6 @@ pub fn set_word(levels: &[u8], table: &[u8], runs: &[usize], columns: &[usize]) 
     word_by_counts(levels, table, runs, columns)
 }
 
-// The same for one set of a walk over many, which lends the counters: fewer runs are worth counting.
-fn word_in_walk(
-    levels: &[u8],
-    table: &[u8],
-    runs: &[usize],
-    columns: &[usize],
-    counters: &mut [u16; 65536],
-) -> i64
-    requires { ⌜ Sound (plan (now levels) (now table)) (now runs) × Projection (plan (now levels) (now table)) (now columns) ⌝ }
-    requires { ⌜ now counters ≡ counted [] ⌝ }
-    ensures word { λ r. ⌜ (let p = plan (now (levels .entry)) (now (table .entry)) in
-        r ≡ wordOf (level p) (entry p) (now (runs .entry)) (now (columns .entry))) ⌝ }
-    ensures counters { λ _. ⌜ now (counters .exit) ≡ counted [] ⌝ }
-{
-    if MOST_COUNTED < columns.len() {
-        return word_by_pairs(levels, table, runs, columns);
-    }
-    if runs.len() < FEW_RUNS_OF_A_WALK {
-        return word_by_pairs(levels, table, runs, columns);
-    }
-    parts::word(levels, table, runs, columns, counters)
-}
-
 // W(I) of the runs, by the engine that is named.
 fn word_by(levels: &[u8], table: &[u8], runs: &[usize], columns: &[usize], engine: Engine) -> i64
     requires { ⌜ Sound (plan (now levels) (now table)) (now runs)
@@ -175,7 +149,7 @@ pub fn set_word_answer(
 }
 
 // The smallest level of the columns.
-fn smallest_level(levels: &[u8], columns: &[usize]) -> u8
+pub fn smallest_level(levels: &[u8], columns: &[usize]) -> u8
     requires { ⌜ SomeColumns (length (now levels)) (now columns) ⌝ }
     ensures { λ r. ⌜ r ≡ smallest (map (λ i. getD (now (levels .entry)) i 0) (now (columns .entry))) ⌝ }
 {
@@ -215,65 +189,37 @@ fn word_over(
     table: &[u8],
     runs: &[usize],
     columns: &[usize],
+    word: i64,
     divisor: u64,
-    counters: &mut [u16; 65536],
 ) -> Fraction
     requires { ⌜ Tabled (plan (now levels) (now table)) (now runs)
         × (Projection (plan (now levels) (now table)) (now columns) × ((1 ≤ divisor) × (divisor < highestLevel))) ⌝ }
-    requires { ⌜ now counters ≡ counted [] ⌝ }
-    ensures value { λ r. ⌜ (let p = plan (now (levels .entry)) (now (table .entry)) in
-        r ≡ overPairs p (now (runs .entry)) (now (columns .entry)) divisor) ⌝ }
-    ensures counters { λ _. ⌜ now (counters .exit) ≡ counted [] ⌝ }
+    requires { ⌜ (let p = plan (now levels) (now table) in word ≡ wordOf (level p) (entry p) (now runs) (now columns)) ⌝ }
+    ensures { λ r. ⌜ r ≡ overPairs (plan (now (levels .entry)) (now (table .entry))) (now (runs .entry)) (now (columns .entry)) divisor ⌝ }
 {
-    let word = word_in_walk(levels, table, runs, columns, counters);
     over(word, runs.len(), divisor)
 }
 
-// The value of a set in the table that is asked for. The relative value of a set with a column of one level is zero before any
-// word is worked out, so that a walk over such sets is quick.
+// The value of a set in the table that is asked for, from its word.
 pub fn value(
     levels: &[u8],
     table: &[u8],
     runs: &[usize],
     columns: &[usize],
+    word: i64,
     relative: bool,
-    counters: &mut [u16; 65536],
 ) -> Fraction
     requires { ⌜ Tabled (plan (now levels) (now table)) (now runs)
         × (Projection (plan (now levels) (now table)) (now columns) × (1 ≤ length (now columns))) ⌝ }
-    requires { ⌜ now counters ≡ counted [] ⌝ }
-    ensures value { λ r. ⌜ r ≡ valueIn relative (plan (now (levels .entry)) (now (table .entry))) (now (runs .entry)) (now (columns .entry)) ⌝ }
-    ensures counters { λ _. ⌜ now (counters .exit) ≡ counted [] ⌝ }
+    requires { ⌜ (let p = plan (now levels) (now table) in word ≡ wordOf (level p) (entry p) (now runs) (now columns)) ⌝ }
+    ensures { λ r. ⌜ r ≡ valueIn relative (plan (now (levels .entry)) (now (table .entry))) (now (runs .entry)) (now (columns .entry)) ⌝ }
 {
     if !relative {
-        return word_over(levels, table, runs, columns, 1, counters);
+        return word_over(levels, table, runs, columns, word, 1);
     }
     let lowest = wide(smallest_level(levels, columns));
     if lowest == 1 {
         return Fraction { num: 0, den: 1 };
     }
-    word_over(levels, table, runs, columns, lowest - 1, counters)
-}
-
-// The relative value of a set of columns that have no other word, as every set of R columns is.
-pub fn ratio(
-    levels: &[u8],
-    table: &[u8],
-    runs: &[usize],
-    columns: &[usize],
-    counters: &mut [u16; 65536],
-) -> Fraction
-    requires { ⌜ Tabled (plan (now levels) (now table)) (now runs)
-        × (Projection (plan (now levels) (now table)) (now columns) × OnlyWord (plan (now levels) (now table)) (now runs) (now columns)) ⌝ }
-    requires { ⌜ now counters ≡ counted [] ⌝ }
-    ensures value { λ r. ⌜ (let p = plan (now (levels .entry)) (now (table .entry)) in
-        r ≡ relativeOf (level p) (entry p) (now (runs .entry)) (now (columns .entry))) ⌝ }
-    ensures counters { λ _. ⌜ now (counters .exit) ≡ counted [] ⌝ }
-{
-    let lowest = wide(smallest_level(levels, columns));
-    if 1 < lowest {
-        let word = parts::only_word(levels, table, runs, columns, counters);
-        return over(word, runs.len(), lowest - 1);
-    }
-    Fraction { num: 0, den: 1 }
+    word_over(levels, table, runs, columns, word, lowest - 1)
 }

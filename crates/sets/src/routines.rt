@@ -5,11 +5,10 @@ ghost use mathlib.Core.Path.{_≡_};
 ghost use mathlib.Core.List.{[], _∷_};
 ghost use Prim.Native.Nat.{_≤_, _<_};
 ghost use lib.Dec.{T};
-ghost use lib.ListN.{length, getD};
 ghost use Rattle.exact.specs.Lists.{holds, filledTo};
-ghost use Rattle.rules.specs.Plan.{mostColumns};
 ghost use Rattle.rules.specs.Refusals.{refusal, badSize, badSet, isSet};
-ghost use Rattle.sets.specs.Sets.{binom, choose, placeOf, setAt};
+ghost use Rattle.sets.specs.Sets.{binom, placeOf, setAt};
+ghost use Rattle.sets.specs.Given.{Binomials};
 
 // The number of sets of b of a columns.
 pub fn binomial(a: usize, b: usize) -> usize
@@ -18,6 +17,22 @@ pub fn binomial(a: usize, b: usize) -> usize
 {
     let i = a * 25 + b;
     BINOMIALS[i]
+}
+
+// All of them, laid out for who looks more than once.
+fn all_binomials() -> [usize; 625]
+    ensures { λ r. ⌜ Binomials r ⌝ }
+{
+    BINOMIALS
+}
+
+// The same number, looked up in them.
+fn looked_up(binomials: &[usize; 625], a: usize, b: usize) -> usize
+    requires { ⌜ Binomials (now binomials) × ((a ≤ 24) × (b ≤ 24)) ⌝ }
+    ensures { λ r. ⌜ r ≡ binom a b ⌝ }
+{
+    let i = a * 25 + b;
+    binomials[i]
 }
 
 // Whether the numbers are columns of m, rising.
@@ -87,6 +102,7 @@ pub fn place(m: usize, columns: &[usize]) -> usize
     requires { ⌜ (m ≤ 24) × T (isSet m (now columns)) ⌝ }
     ensures { λ r. ⌜ r ≡ placeOf m (now (columns .entry)) ⌝ }
 {
+    let binomials = all_binomials();
     let mut place = 0;
     let mut column = 0;
     let mut taken = 0;
@@ -94,7 +110,7 @@ pub fn place(m: usize, columns: &[usize]) -> usize
         if columns[taken] == column {
             taken += 1;
         } else {
-            place += binomial(m - column - 1, columns.len() - taken - 1);
+            place += looked_up(&binomials, m - column - 1, columns.len() - taken - 1);
         }
         column += 1;
     }
@@ -106,12 +122,13 @@ pub fn set_at(m: usize, j: usize, k: usize) -> [usize; 24]
     requires { ⌜ (m ≤ 24) × (j ≤ m) × (k < binom m j) ⌝ }
     ensures { λ r. ⌜ r ≡ filledTo 24 0 (setAt m j k) ⌝ }
 {
+    let binomials = all_binomials();
     let mut columns = [0; 24];
     let mut left = k;
     let mut column = 0;
     let mut taken = 0;
     while taken < j {
-        let having = binomial(m - column - 1, j - taken - 1);
+        let having = looked_up(&binomials, m - column - 1, j - taken - 1);
         if left < having {
             columns[taken] = column;
             taken += 1;
@@ -121,18 +138,4 @@ pub fn set_at(m: usize, j: usize, k: usize) -> [usize; 24]
         column += 1;
     }
     columns
-}
-
-// The set at place k among the sets of t of these columns, then zeros.
-pub fn set_of(columns: &[usize], t: usize, k: usize) -> [usize; 24]
-    requires { ⌜ (length (now columns) ≤ mostColumns) × (t ≤ length (now columns)) × (k < binom (length (now columns)) t) ⌝ }
-    ensures { λ r. ⌜ r ≡ filledTo 24 0 (getD (choose t (now (columns .entry))) k []) ⌝ }
-{
-    let places = set_at(columns.len(), t, k);
-    let mut set = [0; 24];
-    for i in 0..t {
-        let place = places[i];
-        set[i] = columns[place];
-    }
-    set
 }

@@ -30,7 +30,7 @@ fn cell_score(
     }
     let x = level_of(levels, table, f, column);
     let y = level_of(levels, table, g, column);
-    words::routines::score(levels[column], x, y)
+    pairs::routines::score(levels[column], x, y)
 }
 
 // Those of the run at place `at` with each later run, added up.
@@ -63,7 +63,7 @@ fn cell_scores(levels: &[u8], table: &[u8], runs: &[usize], column: usize, other
     ensures { λ r. ⌜ (let p = plan (now (levels .entry)) (now (table .entry)) in
         r ≡ sum (now (runs .entry)) (λ f. sum (now (runs .entry)) (cellScore p column (now (others .entry)) f))) ⌝ }
 {
-    let own = words::routines::score(levels[column], 0, 0);
+    let own = pairs::routines::score(levels[column], 0, 0);
     let mut total: i64 = 0;
     let mut k = runs.len();
     while 0 < k {

@@ -10,7 +10,7 @@ use Rattle.rules.proofs.Order.{passed-none}
 use Rattle.rules.proofs.Ranges.{inside}
 use Rattle.plan.specs.Good.{Sound}
 use Rattle.plan.proofs.Checks.{columns-passed, levels-passed}
-use Rattle.words.specs.Words.{word}
+use Rattle.pairs.specs.Words.{word}
 use Rattle.words.specs.Answers.{wordList}
 
 -- ---- what the routines of a whole plan are lent

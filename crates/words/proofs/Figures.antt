@@ -2,9 +2,9 @@
 use Rattle.exact.proofs.Ground.{List, [], _∷_, map, _≡_, refl, ℕ, pos, ℤ, negsuc, length, take}
 use Rattle.exact.specs.Lists.{from}
 use Rattle.rules.specs.Plan.{Plan, plan, columns, level, entry, everyColumn, everyRun}
-use Rattle.words.specs.Words.{score, wordOf, word, pairSum, rowSum}
+use Rattle.pairs.specs.Words.{score, wordOf, word, pairSum, rowSum}
 use Rattle.words.specs.Given.{bothOrders}
-use Rattle.words.proofs.Laws.{once}
+use Rattle.pairs.specs.Given.{once}
 
 -- of the runs rs of a plan: W_1 to W_m, the row sums of length j of each of the runs, or the sums with each pair of different runs
 -- once; and of such sums those with both orders of each pair and n runs paired with themselves

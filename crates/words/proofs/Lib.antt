@@ -3,8 +3,6 @@ pub mod Bound
 pub mod Squares
 pub mod Positive
 pub mod OneLevel
-pub mod Rows
-pub mod Columns
 pub mod Marked
 pub mod Totals
 pub mod OfPlan

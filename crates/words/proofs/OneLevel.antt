@@ -7,9 +7,9 @@ use Rattle.rules.specs.Plan.{several}
 use Rattle.sets.specs.Sets.{choose}
 use Rattle.sets.proofs.Choose.{choose-keep}
 use Rattle.sets.proofs.Parts.{part-mem, choose-part}
-use Rattle.words.specs.Words.{score, scoreAt, wordOf, word, rowSum, diagonal}
+use Rattle.pairs.specs.Words.{score, scoreAt, wordOf, word, rowSum, diagonal}
 use Rattle.words.specs.Entries.{Below, AllBelow}
-use Rattle.words.proofs.Laws.{score-agrees}
+use Rattle.pairs.proofs.Laws.{score-agrees}
 
 pub score-one : (s a b : ℕ) → s ≡ 1 → a < s → b < s → score s a b ≡ pos 0
 score-one s a b e h l = score-agrees s a b (omega arith) ∙ ap (λ s. pos s -ℤ pos 1) e

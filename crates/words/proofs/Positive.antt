@@ -8,7 +8,7 @@ use Rattle.exact.proofs.Order.{0≤-+, 0≤-square, 0≤-cancel}
 use Rattle.exact.proofs.Sums.{sum-cong, sum-cong-in, sum-*, sum-swap}
 use Rattle.sets.specs.Sets.{choose}
 use Rattle.sets.proofs.Parts.{part-mem, choose-part}
-use Rattle.words.specs.Words.{scoreAt, wordOf, word}
+use Rattle.pairs.specs.Words.{scoreAt, wordOf, word}
 use Rattle.words.specs.Entries.{Below, AllBelow}
 use Rattle.words.proofs.Squares.{spread, score-squares}
 

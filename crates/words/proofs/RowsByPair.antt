@@ -1,20 +1,22 @@
 -- Row sums filled pair by pair: the rows of the first k places of a list, over the first k runs. The pairs of a run with itself come at the end.
-use Rattle.exact.proofs.Ground.{List, [], _∷_, map, _++_, _≡_, _∙_, sym, ap, ℕ, _<_, _+_, _^_, zero-add, arith, ℤ, _+ℤ_, _-ℤ_, length, getD, take}
-use Rattle.exact.proofs.Ground.{drop, replicate, set, List·getD-append, length-replicate, drop-at, take-length}
-use Rattle.exact.specs.Lists.{from}
+use Rattle.exact.proofs.Ground.{List, [], _∷_, map, _++_, _≡_, _∙_, sym, ap, refl, ℕ, _<_, _+_, _^_, zero-add, arith, ℤ, _+ℤ_, _-ℤ_, length, getD, take}
+use Rattle.exact.proofs.Ground.{drop, replicate, set, List·getD-append, length-replicate, drop-at, take-length, take-append-drop, drop-cons, add-one}
+use Rattle.exact.specs.Lists.{from, sum}
+use Rattle.exact.proofs.Sums.{sum-at, sum-++}
 use Rattle.exact.proofs.Numbers.{map-from-at, map-from-cong}
 use Rattle.exact.proofs.Order.{natAbs--}
 use Rattle.exact.proofs.Ring.{ring}
 use Rattle.exact.proofs.Rooms.{begun, length-numbered, length-begun, write-next, read-next}
 use Rattle.rules.specs.Plan.{Plan, level, entry, everyColumn, mostRuns}
 use Rattle.plan.specs.Good.{Sound}
-use Rattle.words.specs.Words.{rowSum, diagonal}
-use Rattle.words.specs.Given.{Row, added, othersList, othersByPlace}
+use Rattle.pairs.specs.Words.{rowSum, diagonal}
+use Rattle.pairs.specs.Given.{Row, added}
+use Rattle.words.specs.Given.{othersList, othersByPlace}
 use Rattle.words.specs.Answers.{byLength, zeros, rowList, diagonalList}
 use Rattle.words.specs.declared.Sums.{Sums}
-use Rattle.words.proofs.Laws.{pair-self, pair-sym, row-pairs}
-use Rattle.words.proofs.Totals.{by-length-row, added-by-length, sum-next}
-use Rattle.words.proofs.OfPlan.{ofPair, row-small, diagonal-small}
+use Rattle.pairs.proofs.Laws.{pair-self, pair-sym, row-pairs}
+use Rattle.pairs.proofs.Totals.{by-length-row, added-by-length, sum-next}
+use Rattle.pairs.proofs.OfPlan.{ofPair, row-small, diagonal-small}
 
 module _ (p : Plan) where
   abbrev row : List ℕ → ℕ → ℕ → ℤ
@@ -47,6 +49,26 @@ module _ (p : Plan) where
         let each : (j : ℕ) → (row (take k rs) f j -ℤ own j) +ℤ ofPair p g j f ≡ row (take (k + 1) rs) f j -ℤ own j =
         λ j. rw (← (row-next f j), pair-sym (level p) (entry p) (everyColumn p) j g f) (simp ring) in
         added-by-length (λ j. row (take k rs) f j -ℤ own j) (λ j. ofPair p g j f) ∙ map-from-cong 1 24 each
+
+  -- the run at place k, over the runs before it and after it
+  pub others-split : (rs : List ℕ) (k : ℕ) → k < length rs →
+      added (rowList p (take k rs) (getD rs k 0)) (rowList p (drop (k + 1) rs) (getD rs k 0)) ≡ othersList p rs (getD rs k 0)
+  unfolding rowList othersList
+  others-split rs k h =
+      let f = getD rs k 0 in let before = take k rs in let after = drop (k + 1) rs in
+      let whole : rs ≡ before ++ f ∷ after = sym (take-append-drop k rs) ∙ ap (λ qs. before ++ qs) (drop-cons rs k 0 h ∙ ap (λ n. f ∷ drop n rs) (sym (add-one k))) in
+      let all : (j : ℕ) → row rs f j ≡ own j +ℤ (row before f j +ℤ row after f j) = λ j.
+      row-pairs (level p) (entry p) rs (everyColumn p) j f
+      ∙ ap (λ qs. sum qs (ofPair p f j)) whole
+      ∙ sum-at before f after (ofPair p f j)
+      ∙ rw (
+        pair-self (level p) (entry p) (everyColumn p) j f,
+        sum-++ before after (ofPair p f j),
+        row-pairs (level p) (entry p) before (everyColumn p) j f,
+        row-pairs (level p) (entry p) after (everyColumn p) j f,
+      ) in
+      let each : (j : ℕ) → row before f j +ℤ row after f j ≡ row rs f j -ℤ own j = λ j. rw (all j) (simp ring) in
+      added-by-length (λ j. row before f j) (λ j. row after f j) ∙ map-from-cong 1 24 each
 
   -- at the end the pair of run f with itself
   pub others-own : (rs : List ℕ) (f : ℕ) → added (othersList p rs f) (diagonalList p) ≡ rowList p rs f
@@ -87,6 +109,17 @@ module _ (p : Plan) (rs : List ℕ) where
   unfolding othersByPlace
   paired-all =
       ap (λ qs. map (λ k. record { sums = othersList p qs (getD rs k 0) }) (from 0 (length rs)) ++ drop (length rs) blank) (take-length rs)
+
+  -- the rows of the first k places, whole
+  abbrev pub placed : ℕ → List Sums
+  placed k = begun (λ i. record { sums = othersList p rs (getD rs i 0) }) blank k
+
+  pub placed-next : (k : ℕ) → k < mostRuns → set (placed k) k (record { sums = othersList p rs (getD rs k 0) }) ≡ placed (k + 1)
+  placed-next k h = write-next (λ i. record { sums = othersList p rs (getD rs i 0) }) blank k past h
+
+  pub placed-all : placed (length rs) ≡ othersByPlace p rs
+  unfolding othersByPlace
+  placed-all = refl
 
   paired-at : (k i : ℕ) → i < k → getD (paired k) i past ≡ rowAt k i
   paired-at k i h =

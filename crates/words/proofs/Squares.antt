@@ -6,8 +6,8 @@ use Rattle.exact.proofs.Ring.{ring, *-one, one-*}
 use Rattle.exact.proofs.Numbers.{length-from}
 use Rattle.exact.proofs.Sums.{sum-cong, sum-+, sum-*, sum-const}
 use Rattle.exact.proofs.Tests.{is-true, is-false}
-use Rattle.words.specs.Words.{score}
-use Rattle.words.proofs.Laws.{eqb-sym}
+use Rattle.pairs.specs.Words.{score}
+use Rattle.pairs.proofs.Laws.{eqb-sym}
 
 -- 1 where the two agree, and 0 where they differ
 unfoldable pub agree : ℕ → ℕ → ℤ

@@ -2,43 +2,30 @@
 -- A call begins with the checks of the plan, or of a held plan: `start` puts them before its own.
 use mathlib.Core.Bool.{cond}
 use mathlib.Core.List.{List, [], _∷_, map}
-use Prim.Native.Nat.{ℕ, _+_}
+use Prim.Native.Nat.{ℕ}
 use lib.IntN.{ℤ, pos}
 use lib.ListN.{replicate}
 use Rattle.exact.specs.Lists.{from, holds}
 use Rattle.rules.specs.Plan.{Plan, columns, level, entry, everyColumn, everyRun, mostColumns, mostRuns}
 use Rattle.rules.specs.declared.Refusal.{Refusal}
 use Rattle.rules.specs.Refusals.{Check, refusal, unless, numberOr, ofPlan, badLength, levelChecks}
-use Rattle.words.specs.Words.{word, pairSum, rowSum, diagonal}
+use Rattle.pairs.specs.Words.{word}
+pub use Rattle.pairs.specs.Lists.{byLength, zeros}
+unfoldable pub use Rattle.pairs.specs.Lists.{pairList, rowList, diagonalList}
 use Rattle.words.specs.declared.Sums.{Sums}
 use Rattle.words.specs.declared.WordsAnswer.{WordsAnswer}
 use Rattle.words.specs.declared.WordAnswer.{WordAnswer}
 use Rattle.words.specs.declared.RowSumsAnswer.{RowSumsAnswer}
 use Rattle.words.specs.declared.DiagonalAnswer.{DiagonalAnswer}
 
--- a number for each word length, 1 to 24. A length above m has no sets of columns, so that its sums are zero
-abbrev pub byLength : (ℕ → ℤ) → List ℤ
-byLength f = map f (from 1 mostColumns)
-
-abbrev pub zeros : List ℤ
-zeros = replicate mostColumns (pos 0)
-
--- what the pair f, g of runs adds to the words, from length 0 on
-unfoldable pub pairList : Plan → ℕ → ℕ → List ℤ
-pairList p f g = map (λ j. pairSum (level p) (entry p) (everyColumn p) j f g) (from 0 (mostColumns + 1))
-
 module _ (p : Plan) (rs : List ℕ) where
   -- W_1, W_2, ..
   unfoldable pub wordList : List ℤ
   wordList = byLength (word (level p) (entry p) rs (everyColumn p))
 
-  -- the row sums of run f
-  unfoldable pub rowList : ℕ → List ℤ
-  rowList f = byLength (λ j. rowSum (level p) (entry p) rs (everyColumn p) j f)
-
   -- every run's row sums, by run number; struck runs, and places without a run, hold zero
   unfoldable pub rowsByRun : List Sums
-  rowsByRun = map (λ f. record { sums = cond (holds f rs) (rowList f) zeros }) (from 0 mostRuns)
+  rowsByRun = map (λ f. record { sums = cond (holds f rs) (rowList p rs f) zeros }) (from 0 mostRuns)
 
   -- the refusal, and beside it the words
   abbrev pub wordsBeside : Refusal → WordsAnswer
@@ -58,10 +45,6 @@ module _ (p : Plan) (rs : List ℕ) where
 
   unfoldable pub rowSumsAnswer : (List Check → List Check) → RowSumsAnswer
   rowSumsAnswer start = rowSumsBeside (refusal (start []))
-
--- E_1, E_2, ..
-unfoldable pub diagonalList : Plan → List ℤ
-diagonalList p = byLength (diagonal (level p) (everyColumn p))
 
 -- of levels alone
 unfoldable pub diagonalAnswer : Plan → DiagonalAnswer

@@ -49,7 +49,7 @@ pub fn word(levels: &[u8], table: &[u8], length: usize) -> WordAnswer
     if refused.number != 0 {
         return WordAnswer { refused, word: 0 };
     }
-    let words = routines::words_of_plan(levels, table);
+    let words = routines::words_in_little_room(levels, table);
     WordAnswer {
         refused,
         word: words[length - 1],
@@ -77,6 +77,6 @@ pub fn diagonal(levels: &[u8]) -> DiagonalAnswer
             sums: [0; 24],
         };
     }
-    let sums = routines::diagonal(levels);
+    let sums = pairs::routines::diagonal(levels);
     DiagonalAnswer { refused, sums }
 }

@@ -2,97 +2,42 @@
 use crate::RowSumsAnswer;
 use crate::Sums;
 use crate::WordsAnswer;
+use cells::strides::places_of;
+use cells::strides::strides_of;
 use exact::signed;
+use pairs::routines::add_to;
+use pairs::routines::diagonal;
+use pairs::routines::pair;
+use row_tally::routines::pairs_pay;
+use row_tally::routines::row_in;
 use rules::Refusal;
 ghost use mathlib.Core.Path.{_≡_};
 ghost use mathlib.Core.List.{[], _∷_};
-ghost use Prim.Native.Nat.{_+_, _≤_, _<_, _^_};
-ghost use lib.IntN.{natAbs};
-ghost use lib.ListN.{drop};
-ghost use Rattle.rules.specs.Plan.{plan, runs, everyRun, mostRuns, highestLevel};
+ghost use Prim.Native.Nat.{_≤_, _^_};
+ghost use Rattle.rules.specs.Plan.{plan, everyRun, mostRuns};
 ghost use Rattle.rules.specs.Refusals.{refusal, badLength};
 ghost use Rattle.plan.specs.Good.{Good, Sound};
-ghost use Rattle.words.specs.Words.{score};
-ghost use Rattle.words.specs.Given.{Row, Part, OfColumns, Gains, gained, withColumn, added, bothOrders, othersByPlace};
-ghost use Rattle.words.specs.Answers.{pairList, rowList, rowsByRun, rowSumsBeside, wordList, wordsBeside, diagonalList};
-
-// The score of a column: its level less one where two entries agree, and -1 where they differ.
-pub fn score(level: u8, a: u8, b: u8) -> i64
-    ensures { λ r. ⌜ r ≡ score level a b ⌝ }
-{
-    if a == b {
-        signed::sub(signed::of_byte(level), 1)
-    } else {
-        -1
-    }
-}
-
-// A sum gains the score times the sum of one length less.
-fn gain(sums: &mut [i64; 25], score: i64, k: usize)
-    requires { ⌜ Gains score k (now sums) ⌝ }
-    ensures { λ _. ⌜ now (sums .exit) ≡ gained score k (now (sums .entry)) ⌝ }
-{
-    sums[k + 1] = signed::add(sums[k + 1], signed::mul(score, sums[k]));
-}
-
-// One column more. `columns` are in the sums so far, so that the sums of greater lengths are zero and stay so.
-// Two lengths a turn: of one a turn the compiler makes vectors of two products of 64 bits, which x86-64 has no instruction for, and is slower.
-pub(crate) fn extend(sums: &mut [i64; 25], score: i64, columns: usize)
-    requires { ⌜ OfColumns columns (now sums) × (natAbs score ≤ highestLevel) ⌝ }
-    ensures { λ _. ⌜ now (sums .exit) ≡ withColumn score (now (sums .entry)) ⌝ }
-{
-    let mut j = columns + 1;
-    while 2 <= j {
-        gain(sums, score, j - 1);
-        gain(sums, score, j - 2);
-        j -= 2;
-    }
-    if j == 1 {
-        gain(sums, score, 0);
-    }
-}
-
-// The sums of a pair go into a total. They may end at the plan's number of columns, since those of greater lengths are zero.
-pub fn add_to(total: &mut [i64; 24], more: &[i64])
-    requires { ⌜ Row (2 ^ 61) (now total) × Part (2 ^ 61) (now more) ⌝ }
-    ensures { λ _. ⌜ now (total .exit) ≡ added (now (total .entry)) (now (more .entry)) ⌝ }
-{
-    for j in 0..more.len() {
-        total[j] = signed::add(total[j], more[j]);
-    }
-}
-
-// What a pair of runs adds to the words: the sums over all sets of columns, from length 0 on, a column at a time.
-pub fn pair(levels: &[u8], table: &[u8], f: usize, g: usize) -> [i64; 25]
-    requires { ⌜ Sound (plan (now levels) (now table)) (f ∷ []) × Sound (plan (now levels) (now table)) (g ∷ []) ⌝ }
-    ensures { λ r. ⌜ r ≡ pairList (plan (now (levels .entry)) (now (table .entry))) f g ⌝ }
-{
-    let m = levels.len();
-    let mut sums = [0i64; 25];
-    sums[0] = 1;
-    for i in 0..m {
-        let x = score(levels[i], table[f * m + i], table[g * m + i]);
-        extend(&mut sums, x, i);
-    }
-    sums
-}
+ghost use Rattle.pairs.specs.Given.{Row, onceList};
+ghost use Rattle.pairs.specs.Lists.{rowList};
+ghost use Rattle.cells.specs.Cells.{Strides};
+ghost use Rattle.tally.specs.Tally.{Lent};
+ghost use Rattle.row_tally.specs.Kept.{Kept};
+ghost use Rattle.words.specs.Given.{bothOrders, othersByPlace};
+ghost use Rattle.words.specs.Answers.{rowsByRun, rowSumsBeside, wordList, wordsBeside};
 
 // The row sums of run f over the runs given, of which f need not be one.
 pub fn row(levels: &[u8], table: &[u8], runs: &[usize], f: usize) -> Sums
     requires { ⌜ Sound (plan (now levels) (now table)) (now runs) × Sound (plan (now levels) (now table)) (f ∷ []) ⌝ }
     ensures { λ r. ⌜ r .sums ≡ rowList (plan (now (levels .entry)) (now (table .entry))) (now (runs .entry)) f ⌝ }
 {
-    let mut total = [0i64; 24];
-    for k in 0..runs.len() {
-        let sums = pair(levels, table, f, runs[k]);
-        add_to(&mut total, &sums[1..]);
+    Sums {
+        sums: row_tally::routines::row(levels, table, runs, f),
     }
-    Sums { sums: total }
 }
 
 // For the run at each place of the list, its row sums over the runs at the other places. Each pair is visited once, and added to both rows.
 // By place and not by number: a list may name a run twice, and by number such a run would get its pairs twice.
-pub fn rows_of_others(levels: &[u8], table: &[u8], runs: &[usize]) -> [Sums; 256]
+fn others_by_pairs(levels: &[u8], table: &[u8], runs: &[usize]) -> [Sums; 256]
     requires { ⌜ Sound (plan (now levels) (now table)) (now runs) ⌝ }
     ensures { λ r. ⌜ r ≡ othersByPlace (plan (now (levels .entry)) (now (table .entry))) (now (runs .entry)) ⌝ }
 {
@@ -114,6 +59,74 @@ pub fn rows_of_others(levels: &[u8], table: &[u8], runs: &[usize]) -> [Sums; 256
     rows
 }
 
+// The same with the pairs of each run counted by cell.
+fn others_in(
+    counts: &mut [u16],
+    samples: &mut [u16],
+    known: &mut [u8],
+    kept: &mut [i64],
+    strides: &[u16; 24],
+    levels: &[u8],
+    table: &[u8],
+    runs: &[usize],
+) -> [Sums; 256]
+    requires { ⌜ (let p = plan (now levels) (now table) in Strides p (now strides) × Sound p (now runs) × Lent (now counts) (now samples)
+        × Kept p (now known) (now kept)) ⌝ }
+    ensures { λ r. ⌜ r ≡ othersByPlace (plan (now (levels .entry)) (now (table .entry))) (now (runs .entry)) ⌝ }
+{
+    let mut rows = [Sums { sums: [0; 24] }; 256];
+    for k in 0..runs.len() {
+        let sums = row_in(
+            counts,
+            samples,
+            known,
+            kept,
+            strides,
+            levels,
+            table,
+            &runs[..k],
+            &runs[k + 1..],
+            runs[k],
+        );
+        rows[k] = Sums { sums };
+    }
+    rows
+}
+
+// The same in rooms of our own. Where all columns have two levels there are at most 25 cells.
+fn others_by_cells(levels: &[u8], table: &[u8], runs: &[usize]) -> [Sums; 256]
+    requires { ⌜ Sound (plan (now levels) (now table)) (now runs) ⌝ }
+    ensures { λ r. ⌜ r ≡ othersByPlace (plan (now (levels .entry)) (now (table .entry))) (now (runs .entry)) ⌝ }
+{
+    let strides = strides_of(levels);
+    let places = places_of(&strides, levels, 1024);
+    let mut counts = [0u16; 1024];
+    let mut samples = [0u16; 1024];
+    let mut known = [0u8; 32];
+    let mut kept = [0i64; 768];
+    others_in(
+        &mut counts[..places],
+        &mut samples[..places],
+        &mut known,
+        &mut kept,
+        &strides,
+        levels,
+        table,
+        runs,
+    )
+}
+
+// For the run at each place of the list, its row sums over the runs at the other places.
+pub fn rows_of_others(levels: &[u8], table: &[u8], runs: &[usize]) -> [Sums; 256]
+    requires { ⌜ Sound (plan (now levels) (now table)) (now runs) ⌝ }
+    ensures { λ r. ⌜ r ≡ othersByPlace (plan (now (levels .entry)) (now (table .entry))) (now (runs .entry)) ⌝ }
+{
+    if pairs_pay(levels, runs.len()) {
+        return others_by_pairs(levels, table, runs);
+    }
+    others_by_cells(levels, table, runs)
+}
+
 // The row sums of every run, by its number. The pairs of a run with itself are added here, at the end.
 pub fn rows(levels: &[u8], table: &[u8], runs: &[usize]) -> [Sums; 256]
     requires { ⌜ Sound (plan (now levels) (now table)) (now runs) ⌝ }
@@ -131,19 +144,6 @@ pub fn rows(levels: &[u8], table: &[u8], runs: &[usize]) -> [Sums; 256]
     rows
 }
 
-// What the pairs of run f with the later runs add to the words goes into the total.
-fn add_later(total: &mut [i64; 24], levels: &[u8], table: &[u8], f: usize)
-    requires { ⌜ Row (2 ^ 60) (now total) × (Good (plan (now levels) (now table)) × (f < runs (plan (now levels) (now table)))) ⌝ }
-    ensures { λ _. ⌜ (let p = plan (now (levels .entry)) (now (table .entry)) in
-        now (total .exit) ≡ added (now (total .entry)) (rowList p (drop (f + 1) (everyRun p)) f)) ⌝ }
-{
-    let n = table.len() / levels.len();
-    for g in f + 1..n {
-        let sums = pair(levels, table, f, g);
-        add_to(total, &sums[1..]);
-    }
-}
-
 // The total of each pair in one order becomes that in both, and each of the runs has a pair with itself.
 pub fn both_orders(total: &mut [i64; 24], own: &[i64], runs: usize)
     requires { ⌜ Row (2 ^ 60) (now total) × (Row (2 ^ 32) (now own) × (runs ≤ mostRuns)) ⌝ }
@@ -157,21 +157,36 @@ pub fn both_orders(total: &mut [i64; 24], own: &[i64], runs: usize)
     }
 }
 
+// The words of an accepted plan, from the sums over each pair of different runs once.
+fn words_from(once: [i64; 24], levels: &[u8], table: &[u8]) -> [i64; 24]
+    requires { ⌜ (let p = plan (now levels) (now table) in Good p × (once ≡ onceList p (everyRun p))) ⌝ }
+    ensures { λ r. ⌜ (let p = plan (now (levels .entry)) (now (table .entry)) in r ≡ wordList p (everyRun p)) ⌝ }
+{
+    let n = table.len() / levels.len();
+    let own = diagonal(levels);
+    let mut total = once;
+    both_orders(&mut total, &own, n);
+    total
+}
+
 // The words of an accepted plan: each pair of different runs visited once and counted double, at the end the pairs of a run with itself.
 pub fn words_of_plan(levels: &[u8], table: &[u8]) -> [i64; 24]
     requires { ⌜ Good (plan (now levels) (now table)) ⌝ }
     ensures { λ r. ⌜ (let p = plan (now (levels .entry)) (now (table .entry)) in r ≡ wordList p (everyRun p)) ⌝ }
 {
-    let n = table.len() / levels.len();
-    let mut total = [0i64; 24];
-    let mut f = n;
-    while 0 < f {
-        f -= 1;
-        add_later(&mut total, levels, table, f);
-    }
-    let own = diagonal(levels);
-    both_orders(&mut total, &own, n);
-    total
+    words_from(tally::routines::once(levels, table), levels, table)
+}
+
+// The same in less than 2,048 bytes of stack.
+pub(crate) fn words_in_little_room(levels: &[u8], table: &[u8]) -> [i64; 24]
+    requires { ⌜ Good (plan (now levels) (now table)) ⌝ }
+    ensures { λ r. ⌜ (let p = plan (now (levels .entry)) (now (table .entry)) in r ≡ wordList p (everyRun p)) ⌝ }
+{
+    words_from(
+        tally::routines::once_in_little_room(levels, table),
+        levels,
+        table,
+    )
 }
 
 // The words of all runs of a plan, behind its refusal.
@@ -224,20 +239,4 @@ pub fn check_length(m: usize, length: usize) -> Refusal
         return Refusal::plain(8);
     }
     Refusal::accepted()
-}
-
-// E_j, for each length j: what a pair of a run with itself adds, since there every column agrees.
-pub fn diagonal(levels: &[u8]) -> [i64; 24]
-    requires { ⌜ Sound (plan (now levels) []) [] ⌝ }
-    ensures { λ r. ⌜ r ≡ diagonalList (plan (now (levels .entry)) []) ⌝ }
-{
-    let mut sums = [0i64; 25];
-    sums[0] = 1;
-    for i in 0..levels.len() {
-        let x = score(levels[i], 0, 0);
-        extend(&mut sums, x, i);
-    }
-    let mut longer = [0i64; 24];
-    add_to(&mut longer, &sums[1..]);
-    longer
 }

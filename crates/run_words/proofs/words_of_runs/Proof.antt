@@ -5,11 +5,13 @@ use Rattle.exact.proofs.Members.{getD-mem}
 use Rattle.rules.specs.Plan.{Plan, plan, level, entry, everyColumn}
 use Rattle.plan.specs.Good.{Sound}
 use Rattle.words.specs.Words.{rowSum}
-use Rattle.words.specs.Given.{Row, Part, added, bothOrders}
+use Rattle.pairs.specs.Given.{Row, Part, added, onceList}
+use Rattle.words.specs.Given.{bothOrders}
 use Rattle.words.specs.Answers.{rowList, diagonalList}
-use Rattle.words.proofs.OfPlan.{sound-some, sound-run, sound-levels, row-small, diagonal-row}
-use Rattle.words.proofs.Totals.{by-length-row, whole-part}
-use Rattle.words.proofs.Once.{onceList, once-none, once-turn, once-row, word-once}
+use Rattle.pairs.proofs.OfPlan.{sound-some, sound-run, sound-levels, row-small, diagonal-row}
+use Rattle.pairs.proofs.Totals.{by-length-row, whole-part}
+use Rattle.pairs.proofs.Once.{once-none, once-turn, once-row}
+use Rattle.words.proofs.Once.{word-once}
 use Rattle.run_words.proofs.words_of_runs.Statement.{statement}
 use Rattle.run_words.proofs.words_of_runs.Tie as tie
 

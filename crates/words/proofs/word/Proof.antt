@@ -10,9 +10,9 @@ use Rattle.plan.proofs.Checks.{passed-good, plan-handed}
 use Rattle.plan.proofs.Sound.{good-sound}
 use Rattle.plan.proofs.Answers.{answer-refused, answer-accepted}
 use Rattle.words.specs.declared.WordAnswer.{WordAnswer}
-use Rattle.words.specs.Words.{word}
+use Rattle.pairs.specs.Words.{word}
 use Rattle.words.specs.Answers.{wordAnswer}
-use Rattle.words.proofs.OfPlan.{word-small}
+use Rattle.pairs.proofs.OfPlan.{word-small}
 use Rattle.words.proofs.Answered.{word-at, length-passed}
 use Rattle.words.proofs.word.Statement.{statement}
 use Rattle.words.proofs.word.Tie as tie
@@ -56,8 +56,8 @@ returns : tie.Need-returns
 unfolding wordAnswer
 returns c = let k = c .before .before in answer-refused make (pos 0) (W k) (sym (whole k)) (c .if1 .taken)
 
-words-of-plan-requires : tie.Need-words-of-plan-requires
-words-of-plan-requires c κs = good (c .before .before) (c .if1 .left)
+words-in-little-room-requires : tie.Need-words-in-little-room-requires
+words-in-little-room-requires c κs = good (c .before .before) (c .if1 .left)
 
 sub-t8 : tie.Need-sub-t8
 sub-t8 c = let d = c .before in omega (arith, inside (d .before .before) (d .if1 .left) .0)
@@ -79,8 +79,8 @@ returns-2 c =
     let d = w .before in
     let k = d .before .before in
     let G = good k (d .if1 .left) in
-    let e : getD (w .words-of-plan .result) (j k - 1) (pos 0) ≡ W k
-    = ap (λ l. getD l (j k - 1) (pos 0)) (w .words-of-plan .ensures)
+    let e : getD (w .words-in-little-room .result) (j k - 1) (pos 0) ≡ W k
+    = ap (λ l. getD l (j k - 1) (pos 0)) (w .words-in-little-room .ensures)
     ∙ word-at (given k) (everyRun (given k)) (j k) (inside k (d .if1 .left) .0) (omega (arith, inside k (d .if1 .left) .1, G .columns-high)) in
     let read : toZ w64 (ofZ w64 (W k)) ≡ W k
     = back (fits (W k) (omega (arith, word-small (given k) (everyRun (given k)) (good-sound (given k) G) (j k)))) in
@@ -95,7 +95,7 @@ word-spec =
     (λ c κs. search needs)
     (λ c κs. search needs)
     returns
-    words-of-plan-requires
+    words-in-little-room-requires
     sub-t8
     mul-t11
     array-copy-out-t14

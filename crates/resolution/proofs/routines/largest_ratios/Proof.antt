@@ -5,7 +5,7 @@ use Rattle.sets.specs.Sets.{choose}
 use Rattle.plan.proofs.Several.{several-part, several-few, several-front, several-held}
 use Rattle.words.proofs.OneLevel.{words-several}
 use Rattle.set_words.proofs.Products.{part-projection}
-use Rattle.resolution.specs.Given.{ratiosOf}
+use Rattle.ratios.specs.Ratios.{ratiosOf}
 use Rattle.resolution.proofs.Agreement.{all-below}
 use Rattle.resolution.proofs.OneLevel.{walk-several}
 use Rattle.resolution.proofs.routines.largest_ratios.Statement.{statement}

@@ -3,11 +3,13 @@ use Rattle.exact.proofs.Ground.{List, List·Memᴰ, _≡_, _∙_, sym, ap, refl
 use Rattle.exact.proofs.Ground.{needs}
 use Rattle.exact.proofs.Members.{getD-mem}
 use Rattle.rules.specs.Plan.{Plan, plan, mostRuns}
-use Rattle.words.specs.Given.{added, othersList, othersByPlace}
+use Rattle.pairs.specs.Given.{added}
+use Rattle.words.specs.Given.{othersList, othersByPlace}
 use Rattle.words.specs.Answers.{diagonalList}
 use Rattle.words.proofs.Marked.{marked, marked-next}
-use Rattle.words.proofs.Totals.{whole-part}
-use Rattle.words.proofs.OfPlan.{place, rows-none, rows-marked, sound-run, sound-levels, diagonal-row}
+use Rattle.pairs.proofs.Totals.{whole-part}
+use Rattle.pairs.proofs.OfPlan.{sound-run, sound-levels, diagonal-row}
+use Rattle.words.proofs.OfPlan.{place, rows-none, rows-marked}
 use Rattle.words.proofs.RowsByPair.{others-own, others-row, others-at, past}
 use Rattle.words.proofs.routines.rows.Statement.{statement}
 use Rattle.words.proofs.routines.rows.Tie as tie

@@ -1,0 +1,7 @@
+pub mod Laws
+pub mod Bound
+pub mod Rows
+pub mod Columns
+pub mod Totals
+pub mod OfPlan
+pub mod Once

@@ -1,0 +1,3 @@
+pub mod Counters
+pub mod Stored
+pub mod Given
