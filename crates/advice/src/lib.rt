@@ -1,4 +1,6 @@
 // Advice on the run to lose, and losing in turn (document 01, "The held plan").
+#![tactic(auto)]
+
 ghost use Rattle.std.specs.Prelude.{◌≡◌};
 ghost use Rattle.rules.specs.Plan.{plan, every_run};
 ghost use Rattle.rules.specs.Refusals.{of_plan};
@@ -9,14 +11,14 @@ use rules::Refusal;
 pub mod routines;
 
 // The refusal, and beside it the run advised for loss, which is zero in a refusal.
-#[derive(Drop)]
+#[derive(Clone, Copy)]
 pub struct AdviceAnswer {
     pub refused: Refusal,
     pub run: usize,
 }
 
 // The refusal, and beside it the runs to lose, in the order taken, zero in any place left over.
-#[derive(Drop)]
+#[derive(Clone, Copy)]
 pub struct TurnsAnswer {
     pub refused: Refusal,
     pub runs: [usize; 3],

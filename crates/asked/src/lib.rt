@@ -1,5 +1,7 @@
 // For the tests: each question to a plan as a C function (tests/asked.h). It answers the refusal's number, 0 where there is none. The
 // refusal's places and the numbers of the answer go to the lent rooms.
+#![tactic(auto)]
+
 ghost use Rattle.std.specs.Prelude.{◌≡◌, []};
 ghost use Rattle.rules.specs.Plan.{plan, every_run};
 ghost use Rattle.rules.specs.Refusals.{of_plan};

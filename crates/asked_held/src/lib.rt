@@ -1,5 +1,7 @@
 // For the tests: questions to a held plan, after a history of calls, as C functions (tests/asked.h). The plan is opened, refused or not, and led
 // through the history. A function answers the refusal's number, 0 where there is none; the numbers of the answer go to the lent rooms.
+#![tactic(auto)]
+
 ghost use Rattle.std.specs.Prelude.{◌≡◌};
 ghost use Rattle.rules.specs.Plan.{plan};
 ghost use Rattle.held.specs.Held.{call_answer};

@@ -1,4 +1,6 @@
 // For the tests: questions to a held plan on sets of columns and on the resolution, as C functions (tests/asked.h), in the manner of `asked_held`.
+#![tactic(auto)]
+
 ghost use Rattle.std.specs.Prelude.{◌≡◌, true, false};
 ghost use Rattle.rules.specs.Plan.{plan};
 ghost use Rattle.projection_tables.specs.Tables.{rooms};
@@ -111,7 +113,7 @@ pub extern "C" fn asked_held_resolution(
         resolution.new ≡ (held_resolution h).answer.resolution }
 {
     let held: Held = led(levels, table, history);
-    let asked = held_questions::ratios::resolution(held);
+    let asked = held_questions::ratings::resolution(held);
     let answer = asked.answer;
     *resolution = answer.resolution;
     answer.refused.number
@@ -131,7 +133,7 @@ pub extern "C" fn asked_held_generalized(
         numbers.new ≡ generalized_numbers (held_generalized h).answer }
 {
     let held: Held = led(levels, table, history);
-    let asked = held_questions::ratios::generalized(held);
+    let asked = held_questions::ratings::generalized(held);
     let answer = asked.answer;
     let ratio = answer.ratio;
     *numbers = [
@@ -157,7 +159,7 @@ pub extern "C" fn asked_held_chart(
         figures.new ≡ figures_of (held_chart h).answer.chart }
 {
     let held: Held = led(levels, table, history);
-    let asked = held_questions::ratios::charted(held);
+    let asked = held_questions::ratings::charted(held);
     let answer = asked.answer;
     let chart = answer.chart;
     *figures = [chart.word, chart.next, chart.ratio];
@@ -182,7 +184,7 @@ pub extern "C" fn asked_held_figure(
         ratio.new ≡ ratio_in (held_figure h column).answer.figure }
 {
     let held: Held = led(levels, table, history);
-    let asked = held_questions::ratios::column_figure(held, column);
+    let asked = held_questions::ratings::column_figure(held, column);
     let answer = asked.answer;
     let figure = answer.figure;
     *case = case_of(figure);

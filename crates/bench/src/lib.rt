@@ -1,5 +1,7 @@
 // What the benchmark and the tests call beside the planner's exports: functions on byte slices and numbers (bench/exports.h).
 // Each answers a number, or the refusal number negated.
+#![tactic(auto)]
+
 ghost use Rattle.std.specs.Prelude.{◌≡◌, [], ◌≤◌, length};
 ghost use Rattle.rules.specs.Plan.{plan, columns, level, entry, every_column, every_run};
 ghost use Rattle.rules.specs.Refusals.{of_plan};

@@ -1,4 +1,6 @@
 // The comparison of two plans by generalized minimum aberration (document 01, "Words").
+#![tactic(auto)]
+
 ghost use Rattle.std.specs.Prelude.{◌≡◌};
 ghost use Rattle.rules.specs.Plan.{plan};
 ghost use Rattle.compare.specs.Compare.{compare_plans};
@@ -9,7 +11,7 @@ use rules::Refusal;
 pub mod routines;
 
 // A refusal says which plan it is of, 1 or 2.
-#[derive(Drop)]
+#[derive(Clone, Copy)]
 pub enum Comparison {
     Compared(Verdict),
     NotComparable,

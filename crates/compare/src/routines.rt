@@ -44,7 +44,7 @@ pub fn compare_words(a: &[i64; 24], n: usize, b: &[i64; 24], k: usize, m: usize)
 }
 
 // What the comparison takes of a plan: the refusal, the scaled words of its runs, and the numbers of its runs and columns.
-#[derive(Drop)]
+#[derive(Clone, Copy)]
 pub struct Side {
     pub refused: Refusal,
     pub words: [i64; 24],

@@ -1,4 +1,6 @@
 // What every program does with its input and output.
+#![tactic(auto)]
+
 ghost use Rattle.std.specs.Prelude.{◌≡◌, ◌+◌, length};
 ghost use Rattle.io.specs.Counts.{IsPrefixLen};
 ghost use Rattle.rules.specs.Plan.{longest_text, most_columns, most_entries};
@@ -21,7 +23,7 @@ const MALFORMED: u64 = 14;
 const MOST_SHOWN: usize = 600;
 
 // How many bytes of a room were read, and whether a read failed after them.
-#[derive(Drop)]
+#[derive(Clone, Copy)]
 pub struct Read {
     pub size: usize,
     pub failed: bool,

@@ -1,4 +1,6 @@
 // Strength, found by counting level combinations (document 01, "Strength, resolution, projections").
+#![tactic(auto)]
+
 pub mod routines;
 
 ghost use Rattle.std.specs.Prelude.{◌≡◌};
@@ -9,7 +11,7 @@ ghost use Rattle.counts.specs.Counts.{strength_answer};
 use rules::Refusal;
 
 // The refusal, and beside it the strength, which is zero in a refusal.
-#[derive(Drop)]
+#[derive(Clone, Copy)]
 pub struct StrengthAnswer {
     pub refused: Refusal,
     pub strength: usize,

@@ -2,14 +2,14 @@
 ghost use Rattle.std.specs.Prelude.{◌≡◌, ◌<◌};
 ghost use Rattle.exact.specs.Fractions.{gcd, reduced, smaller, smaller_fraction, is_better, is_equal, ShortDenominator};
 
-#[derive(Drop)]
+#[derive(Clone, Copy)]
 pub struct Fraction {
     pub num: u64,
     pub den: u64,
 }
 
 // How two numbers, words or plans compare. The smaller is better.
-#[derive(Drop)]
+#[derive(Clone, Copy)]
 pub enum Verdict {
     Better,
     Worse,

@@ -1,4 +1,6 @@
 // Exact arithmetic: signed integers, fractions. Every contract is in plain ℤ and ℕ, so that no later proof meets the bits.
+#![tactic(auto)]
+
 pub mod bytes;
 pub mod fractions;
 pub mod signed;

@@ -1,5 +1,7 @@
 // The held plan: its own copy of levels and entries, the runs that stand, and their words (document 01, "The held plan").
 // It goes in by value and comes back by value; a call may take as given that it came from an opening or an earlier call.
+#![tactic(auto)]
+
 use rules::Refusal;
 use rules::sizes::MOST_ENTRIES;
 
@@ -8,7 +10,7 @@ mod measures;
 pub mod routines;
 
 // A mark is true while its run stands. Places past the columns and the runs hold zero and false.
-#[derive(Drop)]
+#[derive(Clone, Copy)]
 pub struct Held {
     pub columns: usize,
     pub runs: usize,
@@ -19,7 +21,7 @@ pub struct Held {
 }
 
 // What an opening, a strike and a reinstatement answer.
-#[derive(Drop)]
+#[derive(Clone, Copy)]
 pub struct HeldAnswer {
     pub refused: Refusal,
     pub held: Held,

@@ -10,7 +10,7 @@ use rules::Refusal;
 
 // How a question to a held plan begins: refusal 10 where no run stands. The first `count` places hold the numbers of the standing runs,
 // rising; the others zero.
-#[derive(Drop)]
+#[derive(Clone, Copy)]
 pub struct Standing {
     pub refused: Refusal,
     pub runs: [usize; 256],

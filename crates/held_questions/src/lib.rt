@@ -1,4 +1,6 @@
 // Questions to a held plan: every answer of the library, over the runs that stand.
+#![tactic(auto)]
+
 use advice::{AdviceAnswer, TurnsAnswer};
 use compare::Comparison;
 use counts::StrengthAnswer;
@@ -10,90 +12,90 @@ use tell::TellAnswer;
 use words::{RowSumsAnswer, WordAnswer, WordsAnswer};
 
 pub mod questions;
-pub mod ratios;
+pub mod ratings;
 pub mod tables;
 
 // What a question answers, of the standing runs, and the plan as it was.
-#[derive(Drop)]
+#[derive(Clone, Copy)]
 pub struct HeldWords {
     pub held: Held,
     pub answer: WordsAnswer,
 }
 
-#[derive(Drop)]
+#[derive(Clone, Copy)]
 pub struct HeldWord {
     pub held: Held,
     pub answer: WordAnswer,
 }
 
-#[derive(Drop)]
+#[derive(Clone, Copy)]
 pub struct HeldRowSums {
     pub held: Held,
     pub answer: RowSumsAnswer,
 }
 
-#[derive(Drop)]
+#[derive(Clone, Copy)]
 pub struct HeldStrength {
     pub held: Held,
     pub answer: StrengthAnswer,
 }
 
-#[derive(Drop)]
+#[derive(Clone, Copy)]
 pub struct HeldResolution {
     pub held: Held,
     pub answer: ResolutionAnswer,
 }
 
-#[derive(Drop)]
+#[derive(Clone, Copy)]
 pub struct HeldGeneralized {
     pub held: Held,
     pub answer: GeneralizedAnswer,
 }
 
-#[derive(Drop)]
+#[derive(Clone, Copy)]
 pub struct HeldChart {
     pub held: Held,
     pub answer: ChartAnswer,
 }
 
-#[derive(Drop)]
+#[derive(Clone, Copy)]
 pub struct HeldFigure {
     pub held: Held,
     pub answer: FigureAnswer,
 }
 
-#[derive(Drop)]
+#[derive(Clone, Copy)]
 pub struct HeldSetWord {
     pub held: Held,
     pub answer: SetWordAnswer,
 }
 
-#[derive(Drop)]
+#[derive(Clone, Copy)]
 pub struct HeldTell {
     pub held: Held,
     pub answer: TellAnswer,
 }
 
-#[derive(Drop)]
+#[derive(Clone, Copy)]
 pub struct HeldTable {
     pub held: Held,
     pub answer: TableAnswer,
 }
 
-#[derive(Drop)]
+#[derive(Clone, Copy)]
 pub struct HeldComparison {
     pub held: Held,
     pub other: Held,
     pub answer: Comparison,
 }
 
-#[derive(Drop)]
+#[derive(Clone, Copy)]
 pub struct HeldAdvice {
     pub held: Held,
     pub answer: AdviceAnswer,
 }
 
-#[derive(Drop)]
+#[derive(Clone, Copy)]
 pub struct HeldTurns {
     pub held: Held,
     pub answer: TurnsAnswer,

@@ -1,4 +1,6 @@
 // For our own crates: lines of an answer, put into a room one after the other. Each answers the place behind its bytes.
+#![tactic(auto)]
+
 ghost use Rattle.std.specs.Prelude.{◌≡◌, ◌+◌, ◌≤◌, length};
 ghost use Rattle.exact.specs.Lists.{into};
 ghost use Rattle.text.specs.Bytes.{Put};
@@ -13,7 +15,7 @@ const SPACE: u8 = 32;
 const LINE_FEED: u8 = 10;
 
 // The refusal, and the number of bytes put into the room: those of the refusal's line, or of the answer's lines.
-#[derive(Drop)]
+#[derive(Clone, Copy)]
 pub struct Written {
     pub refused: Refusal,
     pub bytes: usize,

@@ -1,4 +1,6 @@
 // Reads plan text and writes its listing.
+#![tactic(auto)]
+
 use libc::STDIN_FILENO;
 use listing_lines::MOST_BYTES;
 use listing_lines::routines::write_listing;

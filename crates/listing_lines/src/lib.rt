@@ -1,4 +1,6 @@
 // The listing of a plan text (document 01, "Plan text and the listing").
+#![tactic(auto)]
+
 ghost use Rattle.std.specs.Prelude.{◌≡◌, ◌≤◌, length, take};
 ghost use Rattle.listing_lines.specs.Listing.{listing_answer, listing_room};
 
@@ -10,7 +12,7 @@ pub mod routines;
 pub const MOST_BYTES: usize = 2048;
 
 // Refusal 7 where the room is too small, and beside it the number of bytes put into the room, which is zero in a refusal.
-#[derive(Drop)]
+#[derive(Clone, Copy)]
 pub struct ListingAnswer {
     pub refused: Refusal,
     pub bytes: usize,

@@ -1,4 +1,6 @@
 // For our own crates: how a call of a C program begins, which hands over a plan and a mark for each run.
+#![tactic(auto)]
+
 ghost use Rattle.std.specs.Prelude.{◌≡◌, not, map, ◌≤◌, eqb, length};
 ghost use Rattle.rules.specs.Plan.{plan, most_runs};
 ghost use Rattle.held.specs.Given.{standing_of};

@@ -1,4 +1,6 @@
 // For our own crates: the sets of f of m columns one after the other, each made of the one before it.
+#![tactic(auto)]
+
 ghost use Rattle.std.specs.Prelude.{◌≡◌, ◌++◌, map, ℕ, suc, ◌-◌, ◌≤◌, ◌<◌, T, length, get_or, take};
 ghost use Rattle.exact.specs.Lists.{from, into};
 ghost use Rattle.rules.specs.Refusals.{is_set};

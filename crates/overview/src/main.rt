@@ -1,4 +1,6 @@
 // Reads plan text and writes what stands out in the plan: its sizes, the levels that occur in no run, and the runs made before.
+#![tactic(auto)]
+
 use libc::STDIN_FILENO;
 use lines::{line, refusal_line};
 use rules::Refusal;

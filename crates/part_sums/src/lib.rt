@@ -1,5 +1,7 @@
 // For our own crates: W(I) of many sets of columns of one plan. Of each smaller set J the product of its levels times its squared
 // combination counts, T(J), is worked out once; W(I) is the alternating sum of T over the parts of I.
+#![tactic(auto)]
+
 ghost use Rattle.std.specs.Prelude.{◌≡◌, [], ◌+◌, ◌≤◌, length, set};
 ghost use Rattle.exact.specs.Lists.{from};
 ghost use Rattle.rules.specs.Plan.{plan, level, entry};

@@ -1,5 +1,7 @@
 // For our own crates: W(I) from counts. Of a set of up to 4 columns it is the sum, over all parts of the set, of the product of a part's
 // levels times its squared combination counts, minus where an odd number of columns is left out.
+#![tactic(auto)]
+
 ghost use Rattle.std.specs.Prelude.{◌≡◌, [], map, ℕ, ◌+◌, ◌*◌, ◌≤◌, ◌<◌, length, get_or, pos};
 ghost use Rattle.std.proofs.Math.Seq.{paste};
 ghost use Rattle.exact.specs.Lists.{filled_to};

@@ -1,4 +1,6 @@
 // A plan's checks: refusals 1 to 5 of document 01, and their places.
+#![tactic(auto)]
+
 ghost use Rattle.std.specs.Prelude.{◌≡◌, []};
 ghost use Rattle.rules.specs.Plan.{plan};
 ghost use Rattle.rules.specs.Refusals.{refusal, level_checks, plan_checks};

@@ -9,7 +9,7 @@ use crate::check;
 use rules::Refusal;
 
 // The refusal of a plan, 1 to 5. The first `count` places hold the numbers of its runs, none in a refusal; the others zero.
-#[derive(Drop)]
+#[derive(Clone, Copy)]
 pub struct Checked {
     pub refused: Refusal,
     pub runs: [usize; 256],
@@ -49,7 +49,7 @@ pub fn every_run(n: usize) -> [usize; 256]
 }
 
 // The first `many` places hold the columns of more than one level, rising; the others zero.
-#[derive(Drop)]
+#[derive(Clone, Copy)]
 pub struct Several {
     pub columns: [usize; 24],
     pub many: usize,

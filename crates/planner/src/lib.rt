@@ -1,4 +1,6 @@
 // What a C program links: functions on slices of bytes and of run numbers, and on numbers (include/crumbchorus.h).
+#![tactic(auto)]
+
 ghost use Rattle.std.specs.Prelude.{◌≡◌, pos, length};
 ghost use Rattle.rules.specs.Plan.{plan, every_run};
 ghost use Rattle.rules.specs.Refusals.{of_plan, number_or};

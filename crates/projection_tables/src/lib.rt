@@ -1,4 +1,6 @@
 // Projection frequency tables (document 01, "Strength, resolution, projections").
+#![tactic(auto)]
+
 ghost use Rattle.std.specs.Prelude.{◌≡◌, true, false};
 ghost use Rattle.rules.specs.Plan.{plan, every_run};
 ghost use Rattle.rules.specs.Refusals.{of_plan};
@@ -10,7 +12,7 @@ use run_words::words_wanted;
 pub mod routines;
 
 // The refusal, and beside it the number of lines put into the lent rooms, which is zero in a refusal.
-#[derive(Drop)]
+#[derive(Clone, Copy)]
 pub struct TableAnswer {
     pub refused: Refusal,
     pub lines: usize,

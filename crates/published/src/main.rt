@@ -8,6 +8,8 @@
 // oa32 is 000's Table 6 (and 7); oa32-1 to oa32-3 are the selections of its Table 8. oa32-design1, oa32-design3 and oa32-design9
 // are 003's Table 7, oa8 its Table 2, oa9 its Example 1. oa12 stands in 002, section 4.1; pb12 is the cyclic one (002, section 4.2).
 // Where a source names an array and does not print it, docs/PUBLISHED.md says how this one was made.
+#![tactic(auto)]
+
 use figures::{columns, generalized};
 use lines::{put, refusal_line};
 use rules::sizes::{MOST_COLUMNS, MOST_ENTRIES};

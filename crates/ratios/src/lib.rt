@@ -1,5 +1,7 @@
 // For our own crates: the largest ratio of the sets of R columns of a plan. One walk over the sets: those that begin with the same columns
 // share the runs' numbers in these columns.
+#![tactic(auto)]
+
 ghost use Rattle.std.specs.Prelude.{◌≡◌, [], ◌++◌, map, ◌+◌, ◌*◌, ◌≤◌, length, take};
 ghost use Rattle.exact.specs.Lists.{filled_to};
 ghost use Rattle.exact.specs.Fractions.{ShortDenominator};
@@ -16,7 +18,7 @@ use parts::{longer, turn_columns};
 use sets::routines::holds;
 
 // The largest ratio of some sets of columns, and that of those among them that hold one column.
-#[derive(Drop)]
+#[derive(Clone, Copy)]
 pub struct Ratios {
     pub largest: Fraction,
     pub held: Fraction,

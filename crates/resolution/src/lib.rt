@@ -1,4 +1,6 @@
 // Resolution, the largest ratio, generalized resolution and chart figures (document 01, "Strength, resolution, projections").
+#![tactic(auto)]
+
 ghost use Rattle.std.specs.Prelude.{◌≡◌};
 ghost use Rattle.rules.specs.Plan.{plan, every_run};
 ghost use Rattle.rules.specs.Refusals.{of_plan};
@@ -13,13 +15,13 @@ pub mod numbers;
 pub mod routines;
 
 // Every answer: the refusal, and beside it the values, which are zero in a refusal.
-#[derive(Drop)]
+#[derive(Clone, Copy)]
 pub struct ResolutionAnswer {
     pub refused: Refusal,
     pub resolution: usize,
 }
 
-#[derive(Drop)]
+#[derive(Clone, Copy)]
 pub struct GeneralizedAnswer {
     pub refused: Refusal,
     pub resolution: usize,
@@ -28,27 +30,27 @@ pub struct GeneralizedAnswer {
 }
 
 // For charts: the word at the resolution, the next word, the largest ratio.
-#[derive(Drop)]
+#[derive(Clone, Copy)]
 pub struct Chart {
     pub word: f64,
     pub next: f64,
     pub ratio: f64,
 }
 
-#[derive(Drop)]
+#[derive(Clone, Copy)]
 pub struct ChartAnswer {
     pub refused: Refusal,
     pub chart: Chart,
 }
 
 // A column's chart figure: its ratio, or clear where that is zero.
-#[derive(Drop)]
+#[derive(Clone, Copy)]
 pub enum Figure {
     Ratio(f64),
     Clear,
 }
 
-#[derive(Drop)]
+#[derive(Clone, Copy)]
 pub struct FigureAnswer {
     pub refused: Refusal,
     pub figure: Figure,

@@ -17,7 +17,7 @@ use rules::Refusal;
 use rules::sizes::MOST_COLUMNS;
 
 // What every answer is made of: the columns m, the pairs n², R, the words W_R and W_(R+1), the largest ratio and a column's.
-#[derive(Drop)]
+#[derive(Clone, Copy)]
 pub struct Rating {
     pub refused: Refusal,
     pub columns: usize,

@@ -1,5 +1,7 @@
 // Reads plan text and writes the same plan's text, without the runs that the arguments name. Standard error then has the line of each
 // run lost and the original numbers of the runs left.
+#![tactic(auto)]
+
 ghost use Rattle.std.specs.Prelude.{◌≡◌, ◌≤◌, length};
 ghost use Rattle.io.specs.Counts.{IsPrefixLen};
 ghost use Rattle.rules.specs.Plan.{most_runs};

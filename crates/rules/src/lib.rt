@@ -1,4 +1,6 @@
 // A refusal: its number and two place numbers (document 01, "Refusal numbers"). Number 0 is no refusal.
+#![tactic(auto)]
+
 ghost use Rattle.std.specs.Prelude.{◌≡◌, [], ◌∷◌, ◌≤◌};
 ghost use Rattle.rules.specs.Refusals.{accepted, plain, placed, refusal, too_few, or_else, number_or, largest_number};
 
@@ -6,7 +8,7 @@ use exact::signed;
 
 pub mod sizes;
 
-#[derive(Drop)]
+#[derive(Clone, Copy)]
 pub struct Refusal {
     pub number: u64,
     pub first: usize,

@@ -1,4 +1,6 @@
 // For our own crates: the words of some runs of a plan, each named by its number, and what is refused because of them.
+#![tactic(auto)]
+
 ghost use Rattle.std.specs.Prelude.{◌≡◌, true, [], ◌∷◌, ◌≤◌};
 ghost use Rattle.rules.specs.Plan.{plan, most_columns};
 ghost use Rattle.rules.specs.Refusals.{refusal, past_resolution};

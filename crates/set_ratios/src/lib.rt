@@ -1,5 +1,7 @@
 // For our own crates: the ratio of one set of columns, from the runs' numbers in all of them but the last. A walk over the sets keeps these
 // numbers for every set that begins with the same columns.
+#![tactic(auto)]
+
 ghost use Rattle.std.specs.Prelude.{◌≡◌, [], ℕ, ◌+◌, ◌*◌, ◌≤◌, ◌<◌, length, get_or, take, pos};
 ghost use Rattle.rules.specs.Plan.{plan, level, entry, most_runs};
 ghost use Rattle.parts.specs.Parts.{longer, OnlyWord};

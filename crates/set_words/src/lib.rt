@@ -1,4 +1,6 @@
 // Words of single sets of columns (document 01, "Strength, resolution, projections").
+#![tactic(auto)]
+
 ghost use Rattle.std.specs.Prelude.{◌≡◌};
 ghost use Rattle.rules.specs.Plan.{plan, every_run};
 ghost use Rattle.rules.specs.Refusals.{of_plan};
@@ -9,14 +11,14 @@ use rules::Refusal;
 pub mod routines;
 
 // The refusal, and beside it W(I), which is zero in a refusal.
-#[derive(Drop)]
+#[derive(Clone, Copy)]
 pub struct SetWordAnswer {
     pub refused: Refusal,
     pub word: i64,
 }
 
 // How W(I) is worked out: from the pairs of runs, from the counts of level combinations, or as is faster.
-#[derive(Drop)]
+#[derive(Clone, Copy)]
 pub enum Engine {
     Pairs,
     Counts,

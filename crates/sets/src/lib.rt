@@ -1,4 +1,6 @@
 // Sets of columns, numbered in dictionary order.
+#![tactic(auto)]
+
 mod binomials;
 pub mod routines;
 
@@ -10,14 +12,14 @@ use rules::Refusal;
 use rules::sizes::MOST_COLUMNS;
 
 // The place of a set, or the refusal with place 0.
-#[derive(Drop)]
+#[derive(Clone, Copy)]
 pub struct Placed {
     pub refused: Refusal,
     pub place: usize,
 }
 
 // The columns of a set, then zeros; or the refusal with zeros.
-#[derive(Drop)]
+#[derive(Clone, Copy)]
 pub struct Chosen {
     pub refused: Refusal,
     pub columns: [usize; 4],

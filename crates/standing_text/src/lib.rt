@@ -1,4 +1,6 @@
 // The text of the runs that stand, to be passed to another bench (request #101).
+#![tactic(auto)]
+
 ghost use Rattle.std.specs.Prelude.{◌≡◌, ◌≤◌, length};
 ghost use Rattle.held.specs.Held.{IsHeld};
 ghost use Rattle.text.specs.Reader.{filled};
@@ -12,14 +14,14 @@ use rules::Refusal;
 pub mod routines;
 
 // Beside the refusal the numbers of bytes and of runs put into the rooms, both zero in a refusal.
-#[derive(Drop)]
+#[derive(Clone, Copy)]
 pub struct TextAnswer {
     pub refused: Refusal,
     pub bytes: usize,
     pub runs: usize,
 }
 
-#[derive(Drop)]
+#[derive(Clone, Copy)]
 pub struct HeldText {
     pub held: Held,
     pub answer: TextAnswer,

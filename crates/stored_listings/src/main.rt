@@ -1,4 +1,6 @@
 // The listing of each text that an argument names, one after the other.
+#![tactic(auto)]
+
 use listing_lines::MOST_BYTES;
 
 fn list(argument: usize) {

@@ -1,4 +1,6 @@
 // A look over a plan (document 01, "Sizes"): whether a level occurs in a column, and whether a run repeats an earlier one.
+#![tactic(auto)]
+
 ghost use Rattle.std.specs.Prelude.{◌≡◌};
 ghost use Rattle.rules.specs.Plan.{plan, every_run};
 ghost use Rattle.rules.specs.Refusals.{of_plan};
@@ -9,13 +11,13 @@ use rules::Refusal;
 pub mod routines;
 
 // Both answers: the refusal, and beside it the value, which is false or zero in a refusal.
-#[derive(Drop)]
+#[derive(Clone, Copy)]
 pub struct OccursAnswer {
     pub refused: Refusal,
     pub occurs: bool,
 }
 
-#[derive(Drop)]
+#[derive(Clone, Copy)]
 pub struct AlikeAnswer {
     pub refused: Refusal,
     pub run: usize,

@@ -1,2 +1,4 @@
 // A projection table as lines (request #107).
+#![tactic(auto)]
+
 pub mod routines;

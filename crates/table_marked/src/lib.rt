@@ -1,4 +1,6 @@
 // The tables of a C program: a plan, a mark for each run and a size; the lines go into three lent rooms.
+#![tactic(auto)]
+
 ghost use Rattle.std.specs.Prelude.{◌≡◌};
 ghost use Rattle.rules.specs.Plan.{plan};
 ghost use Rattle.projection_tables.specs.Tables.{rooms, table_answer, table_rooms};

@@ -1,5 +1,7 @@
 // Reads plan text and writes the projection table of its runs. The arguments are the size, then `relative` where that table is asked for,
 // and behind `--` the runs that were lost.
+#![tactic(auto)]
+
 use console::arguments::{dashes, is_word, lost_runs, number_at};
 use libc::STDIN_FILENO;
 use lines::Written;

@@ -1,4 +1,6 @@
 // Whether the runs can tell an effect of one column from other columns acting together.
+#![tactic(auto)]
+
 pub mod routines;
 mod scores;
 mod walk;
@@ -12,7 +14,7 @@ use rules::Refusal;
 
 // The groups of the column's levels, each level with its lowest; and the pairs of runs by which two groups became one: left[k] and
 // right[k] for each k below many.
-#[derive(Drop)]
+#[derive(Clone, Copy)]
 pub struct Joins {
     pub groups: [u8; 16],
     pub left: [usize; 16],
@@ -21,7 +23,7 @@ pub struct Joins {
 }
 
 // The refusal, and beside it whether the runs tell, with the groups and the links; in a refusal false, and every number zero.
-#[derive(Drop)]
+#[derive(Clone, Copy)]
 pub struct TellAnswer {
     pub refused: Refusal,
     pub tells: bool,

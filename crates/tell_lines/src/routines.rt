@@ -109,7 +109,7 @@ fn cell_fields(levels: &[u8], table: &[u8], head: usize, run: usize, others: &[u
 }
 
 // The first `many` places hold levels, rising; the others zero.
-#[derive(Drop)]
+#[derive(Clone, Copy)]
 struct Members {
     levels: [u64; 16],
     many: usize,

@@ -1,4 +1,6 @@
 // The assessor's question of a C program: a plan, a mark for each run, a column and others; its lines go into a lent room.
+#![tactic(auto)]
+
 ghost use Rattle.std.specs.Prelude.{◌≡◌, ◌≤◌, length};
 ghost use Rattle.rules.specs.Plan.{plan};
 ghost use Rattle.tell_marked.specs.TellMarked.{marked_written, tell_room};

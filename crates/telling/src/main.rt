@@ -1,5 +1,7 @@
 // Reads plan text and writes whether its runs tell a column from others acting together. The arguments name the column, then the others,
 // and behind `--` the runs that were lost.
+#![tactic(auto)]
+
 use console::arguments::{dashes, lost_runs, number_at, numbers_at};
 use libc::STDIN_FILENO;
 use lines::Written;

@@ -1,4 +1,6 @@
 // Plan text: its reader, and decimal numbers as bytes (document 01, "Plan text and the listing").
+#![tactic(auto)]
+
 ghost use Rattle.std.specs.Prelude.{◌≡◌};
 ghost use Rattle.rules.specs.Plan.{plan};
 ghost use Rattle.text.specs.Text.{plan_of};
@@ -16,7 +18,7 @@ pub mod routines;
 const MOST_NUMBERS: usize = 16_384;
 
 // What the reader answers. In a refusal both numbers are zero.
-#[derive(Drop)]
+#[derive(Clone, Copy)]
 pub struct ReadAnswer {
     pub refused: Refusal,
     pub columns: usize,

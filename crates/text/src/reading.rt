@@ -12,21 +12,21 @@ const ZERO: u8 = 48;
 const NINE: u8 = 57;
 
 // A number of the text and how many bytes it takes: none where it takes no byte.
-#[derive(Drop)]
+#[derive(Clone, Copy)]
 pub struct Number {
     pub value: u8,
     pub size: usize,
 }
 
 // Where the line after this one begins, and how many numbers stand in the room: both zero where this one is malformed.
-#[derive(Drop)]
+#[derive(Clone, Copy)]
 pub struct Line {
     pub next: usize,
     pub count: usize,
 }
 
 // The first malformed line, from 1, or zero; then the number of columns and that of all numbers.
-#[derive(Drop)]
+#[derive(Clone, Copy)]
 pub struct Lines {
     pub malformed: usize,
     pub columns: usize,

@@ -1,4 +1,6 @@
 // Scaled words and row sums of a plan (document 01, "Words").
+#![tactic(auto)]
+
 ghost use Rattle.std.specs.Prelude.{◌≡◌, []};
 ghost use Rattle.rules.specs.Plan.{plan, every_run};
 ghost use Rattle.rules.specs.Refusals.{of_plan};
@@ -9,31 +11,31 @@ use rules::Refusal;
 pub mod routines;
 
 // A number for each word length, length 1 first.
-#[derive(Drop)]
+#[derive(Clone, Copy)]
 pub struct Sums {
     pub sums: [i64; 24],
 }
 
 // Every answer: the refusal, and beside it the values, which are zero in a refusal.
-#[derive(Drop)]
+#[derive(Clone, Copy)]
 pub struct WordsAnswer {
     pub refused: Refusal,
     pub words: [i64; 24],
 }
 
-#[derive(Drop)]
+#[derive(Clone, Copy)]
 pub struct WordAnswer {
     pub refused: Refusal,
     pub word: i64,
 }
 
-#[derive(Drop)]
+#[derive(Clone, Copy)]
 pub struct RowSumsAnswer {
     pub refused: Refusal,
     pub rows: [Sums; 256],
 }
 
-#[derive(Drop)]
+#[derive(Clone, Copy)]
 pub struct DiagonalAnswer {
     pub refused: Refusal,
     pub sums: [i64; 24],

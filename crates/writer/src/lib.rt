@@ -1,4 +1,6 @@
 // The writer of plan text (request #101).
+#![tactic(auto)]
+
 ghost use Rattle.std.specs.Prelude.{◌≡◌, length};
 ghost use Rattle.rules.specs.Plan.{plan, every_run};
 ghost use Rattle.rules.specs.Refusals.{of_plan};
@@ -13,7 +15,7 @@ pub mod routines;
 pub const MOST_BYTES: usize = 18_504;
 
 // What the writer answers: beside the refusal the number of bytes put into the room, zero in a refusal.
-#[derive(Drop)]
+#[derive(Clone, Copy)]
 pub struct WriteAnswer {
     pub refused: Refusal,
     pub bytes: usize,

@@ -1,11 +1,11 @@
 -- `asked::asked_comparison` meets its contract: the numbers of the answer.
-use Rattle.exact.proofs.Ground.{◌∙◌, ap, needs}
+use Rattle.exact.proofs.Ground.{◌∙◌, ap, rules}
 use Rattle.asked.specs.Asked.{numbers_of}
 use Rattle.asked.proofs.asked_comparison.Statement.{statement}
 use Rattle.asked.proofs.asked_comparison.Tie as tie
 
 returns : tie.Need-returns
-returns c = c.Numbers-of.ensures ∙ ap numbers_of c.before.compare.ensures
+returns c = c.Numbers-of.ensures ∙ ap numbers_of c.compare-answer.ensures
 
-pub asked-comparison-spec : {M : Type 1} → statement M
-asked-comparison-spec = tie.close (tie.spec (λ c κs. search needs) (λ c κs. search needs) returns)
+pub asked_comparison_spec : {M : Type 1} → statement M
+asked_comparison_spec = tie.close (tie.spec (λ c κs. search rules) (λ c κs. search rules) returns)

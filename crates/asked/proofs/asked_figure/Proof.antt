@@ -1,13 +1,13 @@
 -- `asked::asked_figure` meets its contract: the figure and the refusal of the answer.
-use Rattle.exact.proofs.Ground.{refl, needs}
+use Rattle.exact.proofs.Ground.{refl, rules}
 use Rattle.asked.proofs.asked_figure.Statement.{statement}
 use Rattle.asked.proofs.asked_figure.Tie as tie
 
 returns : tie.Need-returns
 returns c =
-    let r = c.before in
-    let k = r.before in
-    rw (k.case-of.ensures, r.ratio-in.ensures, k.before.before.column-figure.ensures) (refl, (refl, (refl, refl)))
+    let r = c in
+    let k = r in
+    rw (k.case_of.ensures, r.ratio_in.ensures, k.column_figure-answer.ensures) (refl, (refl, (refl, refl)))
 
-pub asked-figure-spec : {M : Type 1} → statement M
-asked-figure-spec = tie.close (tie.spec (λ c κs. search needs) (λ c κs. search needs) (λ c κs. search needs) returns)
+pub asked_figure_spec : {M : Type 1} → statement M
+asked_figure_spec = tie.close (tie.spec (λ c κs. search rules) (λ c κs. search rules) (λ c κs. search rules) returns)

@@ -1,5 +1,5 @@
 -- `bench::rounds` meets its contract: each turn of the loop is a round.
-use Rattle.exact.proofs.Ground.{◌≡◌, ◌∙◌, ap, refl, ◌≤◌, ◌-◌, add-one, arith, needs}
+use Rattle.exact.proofs.Ground.{◌≡◌, ◌∙◌, ap, refl, ◌≤◌, ◌-◌, add-one, arith, rules}
 use Rattle.held.specs.declared.HeldAnswer.{HeldAnswer}
 use Rattle.held.specs.Held.{strikes, reinstates, call_answer}
 use Rattle.held.proofs.History.{call-held}
@@ -17,19 +17,19 @@ decreases-loop times turned₀ counter₀ turned counter = times - counter
 loop-holds : tie.Need-loop-init invariant-loop decreases-loop
 loop-holds c = (omega arith, refl)
 
-strike-requires : tie.Need-strike-requires invariant-loop decreases-loop
-strike-requires c κs = let l = c.before.loop in rw l.invariant.1 (rounds-held c.before.before.requires l.counter)
+strike-requires : tie.Need-strike-struck-requires invariant-loop decreases-loop
+strike-requires c κs = let l = c.loop in rw l.invariant.1 (rounds-held c.requires l.counter)
 
-reinstate-requires : tie.Need-reinstate-requires invariant-loop decreases-loop
+reinstate-requires : tie.Need-reinstate-reinstated-requires invariant-loop decreases-loop
 reinstate-requires c κs =
-    let a = c.before.before.before in
-    rw (c.before.strike.ensures, a.loop.invariant.1) (call-held (rounds-held a.before.requires a.loop.counter) (strikes 0))
+    let a = c in
+    rw (c.strike-struck.ensures, a.loop.invariant.1) (call-held (rounds-held a.requires a.loop.counter) (strikes 0))
 
 loop-again : tie.Need-loop-preserved invariant-loop decreases-loop
 loop-again c =
-    let r = c.before.reinstate in
-    let s = c.before.before.before.strike in
-    let l = c.before.before.before.before.before.loop in
+    let r = c.reinstate-reinstated in
+    let s = c.strike-struck in
+    let l = c.loop in
     let turned : r.result.held ≡ round l.turned
     = ap (λ (a : HeldAnswer). a.held) r.ensures ∙ ap (λ (a : HeldAnswer). (call_answer a.held (reinstates 0)).held) s.ensures in (
       omega arith,
@@ -38,13 +38,13 @@ loop-again c =
 
 returns : tie.Need-returns invariant-loop decreases-loop
 returns c =
-    let l = c.before.loop in
-    let s = c.before.before in
+    let l = c.loop in
+    let s = c in
     let all : l.counter ≡ s.args.times = omega arith in
     l.invariant.1 ∙ ap (rounds s.args.held) all
 
-pub rounds-spec : {M : Type 1} → statement M
-rounds-spec =
+pub rounds_spec : {M : Type 1} → statement M
+rounds_spec =
     tie.close
     (tie.spec
     invariant-loop
@@ -52,7 +52,7 @@ rounds-spec =
     loop-holds
     strike-requires
     reinstate-requires
-    (λ c. search needs)
-    (λ c. search needs)
+    (λ c. search rules)
+    (λ c. search rules)
     loop-again
     returns)

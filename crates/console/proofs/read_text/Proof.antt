@@ -14,54 +14,54 @@ use Rattle.console.proofs.read_text.Tie as tie
 counted : (n : ℕ) (bytes : List ℕ) → n ≤ length bytes → IsPrefixLen n bytes
 counted n bytes h = (h, sym (length-take-le n bytes h))
 
-abbrev invariant-loop : tie.invariant-loop
-invariant-loop fd room₀ size₀ room size = (length room ≡ length room₀) × (size ≤ length room)
+abbrev invariant-loop-size : tie.invariant-loop-size
+invariant-loop-size fd room₀ size₀ room size = (length room ≡ length room₀) × (size ≤ length room)
 
-abbrev decreases-loop : tie.decreases-loop
-decreases-loop fd room₀ size₀ room size = length room₀ - size
+abbrev decreases-loop-size : tie.decreases-loop-size
+decreases-loop-size fd room₀ size₀ room size = length room₀ - size
 
-loop-holds : tie.Need-loop-init invariant-loop decreases-loop
+loop-holds : tie.Need-loop-size-init invariant-loop-size decreases-loop-size
 loop-holds c = (refl, omega arith)
 
-read-once-requires : tie.Need-read-once-requires invariant-loop decreases-loop
+read-once-requires : tie.Need-read_once-part-requires invariant-loop-size decreases-loop-size
 read-once-requires c κs = tt
 
 -- what one read puts into the rest of the room fits there
-fits : (r : tie.After-room invariant-loop decreases-loop) →
-    r.before.before.before.before.loop.size + r.before.read-once.result.size ≤ length r.before.before.before.before.loop.room
+fits : (r : tie.After-room-1 invariant-loop-size decreases-loop-size) →
+    r.loop-size.size + r.read_once-part.result.size ≤ length r.loop-size.room
 fits r =
-    let l = r.before.before.before.before.loop in
-    omega (arith, r.before.read-once.ensures, r.room.given.0, mid_len l.size (length l.room) l.room (le_refl (length l.room)), l.invariant.1)
+    let l = r.loop-size in
+    omega (arith, r.read_once-part.ensures, r.room-1.given.0, mid_len l.size (length l.room) l.room (le_refl (length l.room)), l.invariant.1)
 
-same_length : tie.Need-same-length invariant-loop decreases-loop
-same_length c = c.before.before.room.given.1 ∙ c.before.before.before.before.before.before.loop.invariant.0
+same_length : tie.Need-shape_of-room-then-more-eq0 invariant-loop-size decreases-loop-size
+same_length c = c.room-1.given.1 ∙ c.loop-size.invariant.0
 
-returns : tie.Need-returns invariant-loop decreases-loop
-returns c = counted _ _ (omega (arith, c.before.before.room.given.1))
+returns : tie.Need-returns-then-more-eq0 invariant-loop-size decreases-loop-size
+returns c = counted _ _ (omega (arith, c.room-1.given.1))
 
-add-size : tie.Need-overflow-add-size invariant-loop decreases-loop
+add-size : tie.Need-overflow_add-size invariant-loop-size decreases-loop-size
 add-size c = omega (arith, fits c.before.before)
 
-loop-less : tie.Need-loop-smaller invariant-loop decreases-loop
+loop-less : tie.Need-loop-size-smaller invariant-loop-size decreases-loop-size
 loop-less c = omega (arith, fits c.before.before)
 
-loop-again : tie.Need-loop-preserved invariant-loop decreases-loop
+loop-again : tie.Need-loop-size-preserved invariant-loop-size decreases-loop-size
 loop-again c =
     let r = c.before.before in
-    (r.room.given.1 ∙ r.before.before.before.before.loop.invariant.0, omega (arith, fits r, r.room.given.1))
+    (r.room-1.given.1 ∙ r.loop-size.invariant.0, omega (arith, fits r, r.room-1.given.1))
 
-same-length-2 : tie.Need-same-length-2 invariant-loop decreases-loop
-same-length-2 c = c.before.loop.invariant.0
+same-length-2 : tie.Need-shape_of-room invariant-loop-size decreases-loop-size
+same-length-2 c = c.loop-size.invariant.0
 
-returns-2 : tie.Need-returns-2 invariant-loop decreases-loop
-returns-2 c = counted _ _ c.before.loop.invariant.1
+returns-2 : tie.Need-returns invariant-loop-size decreases-loop-size
+returns-2 c = counted _ _ c.loop-size.invariant.1
 
-pub read-text-spec : {M : Type 1} → statement M
-read-text-spec =
+pub read_text_spec : {M : Type 1} → statement M
+read_text_spec =
     tie.close
     (tie.spec
-    invariant-loop
-    decreases-loop
+    invariant-loop-size
+    decreases-loop-size
     loop-holds
     (λ c. omega arith)
     (λ c. omega arith)

@@ -5,89 +5,89 @@ use Rattle.next_sets.proofs.Steps.{rowed, rowed-start, rowed-next, rowed-all, co
 use Rattle.next_sets.proofs.next_set.Statement.{statement}
 use Rattle.next_sets.proofs.next_set.Tie as tie
 
-abbrev invariant-loop : tie.invariant-loop
-invariant-loop set₀ f m p column i₀ set i = (p ≤ i) × (i ≤ f) × (length set ≡ length set₀) × (set ≡ rowed set₀ p column i)
+abbrev invariant-loop-i : tie.invariant-loop-i
+invariant-loop-i set₀ f m p column i₀ set i = (p ≤ i) × (i ≤ f) × (length set ≡ length set₀) × (set ≡ rowed set₀ p column i)
 
-abbrev decreases-loop : tie.decreases-loop
-decreases-loop set₀ f m p column i₀ set i = f - i
+abbrev decreases-loop-i : tie.decreases-loop-i
+decreases-loop-i set₀ f m p column i₀ set i = f - i
 
-returns : tie.Need-returns invariant-loop decreases-loop
+returns : tie.Need-returns-then-f-eq0 invariant-loop-i decreases-loop-i
 returns c =
-    let a = c.before.before.args in
-    no-columns a.m a.f a.set.now c.if1.true
+    let a = c.args in
+    no-columns a.m a.f a.set.now c.if-f-eq0.true
 
-slice-aggregate-last-to-raise : tie.Need-slice-aggregate-last-to-raise invariant-loop decreases-loop
+slice-aggregate-last-to-raise : tie.Need-slice_bounds-last_to_raise-end-2 invariant-loop-i decreases-loop-i
 slice-aggregate-last-to-raise c =
-    let a = c.before.before.before.args in
+    let a = c.args in
     sym (length-take-le a.f a.set.now (omega arith))
 
-last-to-raise-requires : tie.Need-last-to-raise-requires invariant-loop decreases-loop
+last-to-raise-requires : tie.Need-last_to_raise-p-requires invariant-loop-i decreases-loop-i
 last-to-raise-requires c κs =
-    let a = c.before.before.before.args in
+    let a = c.args in
     rw (length-take-le a.f a.set.now (omega arith)) (omega arith)
 
 -- the place is one of the set's, and the column there is below m
-raised : (c : tie.After-last-to-raise invariant-loop decreases-loop) → c.last-to-raise.result < c.before.before.before.before.args.f
+raised : (c : tie.After-last_to_raise-p invariant-loop-i decreases-loop-i) → c.last_to_raise-p.result < c.args.f
 raised c =
-    let a = c.before.before.before.before.args in
-    omega (arith, c.last-to-raise.ensures.0, length-take-le a.f a.set.now (omega arith))
+    let a = c.args in
+    omega (arith, c.last_to_raise-p.ensures.0, length-take-le a.f a.set.now (omega arith))
 
-low : (c : tie.After-last-to-raise invariant-loop decreases-loop) → let a = c.before.before.before.before.args in
-    get_or a.set.now c.last-to-raise.result 0 < a.m
+low : (c : tie.After-last_to_raise-p invariant-loop-i decreases-loop-i) → let a = c.args in
+    get_or a.set.now c.last_to_raise-p.result 0 < a.m
 low c =
-    let s = c.before.before.before.before in
-    column-below s.args.m s.args.f s.args.set.now (omega arith) s.requires.3 c.last-to-raise.result (raised c)
+    let s = c in
+    column-below s.args.m s.args.f s.args.set.now (omega arith) s.requires.3 c.last_to_raise-p.result (raised c)
 
-mul-column : tie.Need-overflow-mul-column invariant-loop decreases-loop
+mul-column : tie.Need-offset_bounds-set-p invariant-loop-i decreases-loop-i
 mul-column c = omega (arith, raised c)
 
-slice-read-column : tie.Need-slice-read-column invariant-loop decreases-loop
+slice-read-column : tie.Need-bounds-set-p invariant-loop-i decreases-loop-i
 slice-read-column c = omega (arith, raised c.before)
 
-add-column : tie.Need-overflow-add-column invariant-loop decreases-loop
+add-column : tie.Need-overflow_add-column invariant-loop-i decreases-loop-i
 add-column c = omega (arith, low c.before)
 
-loop-holds : tie.Need-loop-init invariant-loop decreases-loop
+loop-holds : tie.Need-loop-i-init invariant-loop-i decreases-loop-i
 loop-holds c =
-    let a = c.before.before.before.before.before.args in
-    (omega arith, omega (arith, raised c.before), refl, rowed-start a.set.now c.before.last-to-raise.result _)
+    let a = c.args in
+    (omega arith, omega (arith, raised c.before), refl, rowed-start a.set.now c.last_to_raise-p.result _)
 
-add-set : tie.Need-overflow-add-set invariant-loop decreases-loop
+add-set : tie.Need-overflow_add-set invariant-loop-i decreases-loop-i
 add-set c = omega (arith, low c.before.before.before, raised c.before.before.before)
 
-loop-again : tie.Need-loop-preserved invariant-loop decreases-loop
+loop-again : tie.Need-loop-i-preserved invariant-loop-i decreases-loop-i
 loop-again c =
-    let l = c.before in
-    let b = l.before.before in
-    let a = b.before.before.before.before.args in (
+    let l = c in
+    let b = l in
+    let a = b.args in (
       omega arith,
       omega arith,
-      simp length-set l.loop.invariant.2,
-      rw l.loop.invariant.3 (rowed-next a.set.now b.last-to-raise.result _ l.loop.i (omega arith) (omega arith) (omega arith)),
+      simp length-set l.loop-i.invariant.2,
+      rw l.loop-i.invariant.3 (rowed-next a.set.now b.last_to_raise-p.result _ l.loop-i.i (omega arith) (omega arith) (omega arith)),
     )
 
-same_length : tie.Need-same-length invariant-loop decreases-loop
-same_length c = c.before.loop.invariant.2
+same_length : tie.Need-shape_of-set invariant-loop-i decreases-loop-i
+same_length c = c.loop-i.invariant.2
 
-returns-2 : tie.Need-returns-2 invariant-loop decreases-loop
+returns-2 : tie.Need-returns invariant-loop-i decreases-loop-i
 returns-2 c =
-    let l = c.before in
-    let b = l.before.before in
-    let s = b.before.before.before.before in
+    let l = c in
+    let b = l.before.before.before in
+    let s = b in
     let a = s.args in
-    let p = b.last-to-raise.result in
+    let p = b.last_to_raise-p.result in
     let k : p < a.f = omega (arith, raised b) in
-    let e : l.loop.i ≡ a.f = omega arith in
-    l.loop.invariant.3
-    ∙ rowed-all a.set.now p _ l.loop.i (omega arith) (omega arith) (next_set a.m (take a.f a.set.now))
-    (rw e (next_row a.m a.f a.set.now (omega arith) p k b.last-to-raise.ensures.1))
+    let e : l.loop-i.i ≡ a.f = omega arith in
+    l.loop-i.invariant.3
+    ∙ rowed-all a.set.now p _ l.loop-i.i (omega arith) (omega arith) (next_set a.m (take a.f a.set.now))
+    (rw e (next_row a.m a.f a.set.now (omega arith) p k b.last_to_raise-p.ensures.1))
 
-pub next-set-spec : {M : Type 1} → statement M
-next-set-spec =
+pub next_set_spec : {M : Type 1} → statement M
+next_set_spec =
     tie.close
     (tie.spec
-    invariant-loop
-    decreases-loop
+    invariant-loop-i
+    decreases-loop-i
     returns
     (λ c. omega arith)
     slice-aggregate-last-to-raise

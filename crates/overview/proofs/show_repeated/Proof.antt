@@ -4,36 +4,36 @@ use native.Mathlib.Omega.{arith}
 use Rattle.overview.proofs.show_repeated.Statement.{statement}
 use Rattle.overview.proofs.show_repeated.Tie as tie
 
-abbrev invariant-loop : tie.invariant-loop
-invariant-loop levels table runs run₀ t6 run = Unit {0}
+abbrev invariant-loop-run : tie.invariant-loop-run
+invariant-loop-run levels table runs run₀ t6 run = Unit {0}
 
-abbrev decreases-loop : tie.decreases-loop
-decreases-loop levels table runs run₀ t6 run = runs - run
+abbrev decreases-loop-run : tie.decreases-loop-run
+decreases-loop-run levels table runs run₀ t6 run = runs - run
 
-loop-holds : tie.Need-loop-init invariant-loop decreases-loop
+loop-holds : tie.Need-loop-run-init invariant-loop-run decreases-loop-run
 loop-holds c = tt
 
-first-alike-requires : tie.Need-first-alike-requires invariant-loop decreases-loop
+first-alike-requires : tie.Need-first_alike-answer-requires invariant-loop-run decreases-loop-run
 first-alike-requires c κs = tt
 
-line-requires : tie.Need-line-requires invariant-loop decreases-loop
+line-requires : tie.Need-line-requires invariant-loop-run decreases-loop-run
 line-requires c κs = tt
 
-returns : tie.Need-returns invariant-loop decreases-loop
+returns : tie.Need-returns-then-not-line invariant-loop-run decreases-loop-run
 returns c = tt
 
-loop-again : tie.Need-loop-preserved invariant-loop decreases-loop
+loop-again : tie.Need-loop-run-preserved invariant-loop-run decreases-loop-run
 loop-again c = tt
 
-returns-2 : tie.Need-returns-2 invariant-loop decreases-loop
+returns-2 : tie.Need-returns invariant-loop-run decreases-loop-run
 returns-2 c = tt
 
-pub show-repeated-spec : {M : Type 1} → statement M
-show-repeated-spec =
+pub show_repeated_spec : {M : Type 1} → statement M
+show_repeated_spec =
     tie.close
     (tie.spec
-    invariant-loop
-    decreases-loop
+    invariant-loop-run
+    decreases-loop-run
     loop-holds
     first-alike-requires
     (λ c. omega arith)

@@ -233,7 +233,7 @@ value t c =
     let f = e t o in
     let s = s t f in
     let q = c.before.before.before.squares in
-    ap₂ (λ x y. x *ℤ y) (of c.of_size.result c.of_size.type-inv ∙ c.of_size.ensures) (of q.result q.type-inv)
+    ap₂ (λ x y. x *ℤ y) (of c.of_size.result c.of_size.type_inv ∙ c.of_size.ensures) (of q.result q.type_inv)
     ∙ value-is (p t s) (rs t s) s.args.f s.args.base (ds t s) s.args.all.now s.args.counters.now (counting t s) (rest t s) s.args.left s.args.at s.args.product s.args.numbers.now (filling t s) (some t f) (there t f) (more t f) q.result refl (q.ensures.0 ∙ ap squares_of (lent t o))
 
 mul-requires : (t : ℕ) → lts.Need-mul-requires (claims t) (given t) reads.Post

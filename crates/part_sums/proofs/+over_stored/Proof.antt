@@ -135,9 +135,9 @@ halves t c =
     let s = start t e in
     let w = c.before.over-stored in
     ap₂ (λ x y. x -ℤ y)
-    (of w.result w.type-inv ∙ w.ensures
+    (of w.result w.type_inv ∙ w.ensures
     ∙ over-as (base t s) (room t s) s.args.whole (s.args.at * base t s + get_or (columns t s) 0 0 + 1) (back s.fits.top) (others t e))
-    (of c.over-stored2.result c.over-stored2.type-inv ∙ c.over-stored2.ensures ∙ over-as (base t s) (room t s) false s.args.at (back s.fits.top) (others t e))
+    (of c.over-stored2.result c.over-stored2.type_inv ∙ c.over-stored2.ensures ∙ over-as (base t s) (room t s) false s.args.at (back s.fits.top) (others t e))
     ∙ over-step (base t s) (room t s) s.args.top s.args.whole s.args.at (columns t s) (some t e)
 
 sub-requires : (t : ℕ) → lts.Need-sub-requires (claims t) (given t) reads.Post
@@ -146,7 +146,7 @@ sub-requires t c κs =
     rw (halves t c) (omega (arith, stored-small (base t s) (room t s) s.args.top s.args.whole s.args.at (columns t s) (readable t s)))
 
 returns-3 : (t : ℕ) → lts.Need-returns-3 (claims t) (given t) reads.Post
-returns-3 t c = of c.sub.result c.sub.type-inv ∙ c.sub.ensures ∙ halves t c.before
+returns-3 t c = of c.sub.result c.sub.type_inv ∙ c.sub.ensures ∙ halves t c.before
 
 pub +over-stored-spec : {M : Type 1} → statement M
 +over-stored-spec =

@@ -1,5 +1,5 @@
 -- `part_sums::fill_room` meets its contract: the walk from no column taken, in a room that holds T of the empty set.
-use Rattle.exact.proofs.Ground.{List, [], ◌≡◌, ◌∙◌, sym, ap, refl, subst, ℕ, ◌≤◌, ◌<◌, ◌+◌, arith, ℤ, le_trans, length, set, replicate, length-set, length-take-le, w64, to_z, of_z, needs}
+use Rattle.exact.proofs.Ground.{List, [], ◌≡◌, ◌∙◌, sym, ap, refl, subst, ℕ, ◌≤◌, ◌<◌, ◌+◌, arith, ℤ, le_trans, length, set, replicate, length-set, length-take-le, w64, to_z, of_z, rules}
 use Rattle.exact.proofs.Bits.{of}
 use Rattle.rules.specs.Plan.{Plan, plan, columns}
 use Rattle.parts.specs.Parts.{squares_of}
@@ -25,7 +25,7 @@ module _ (s : tie.Start) where
   abbrev U : ℕ → ℤ
   U = stored_at base p rs
 
-slice-aggregate-squares : tie.Need-slice-aggregate-squares
+slice-aggregate-squares : tie.Need-slice_bounds-squares-end
 slice-aggregate-squares c =
     let s = c.before.before.before.before.before.before.before.before in
     sym (length-take-le (length (rs s)) (replicate 256 0) s.requires.0.sound.few)
@@ -47,10 +47,10 @@ squares-requires c κs =
 held : (s : tie.Start) → 0 < length s.args.room.now
 held s = le_trans (places-mono (base s) (omega arith) 0 s.args.k (omega arith)) s.requires.1.1
 
-slice-set-from-room : tie.Need-slice-set-from-room
+slice-set-from-room : tie.Need-bounds-room-0
 slice-set-from-room c = held c.before.before.before.before.before.before.before.before.before.before.before.before
 
-slice-aggregate-fill : tie.Need-slice-aggregate-fill
+slice-aggregate-fill : tie.Need-slice_bounds-fill-end
 slice-aggregate-fill c =
     let s = c.before.before.before.before.before.before.before.before.before.before.before.before.before in
     sym (length-take-le (length (rs s)) (replicate 256 0) s.requires.0.sound.few)
@@ -60,17 +60,17 @@ first : (c : tie.After-squares) → let s = c.before.before.before.before.before
 first c =
     let s = c.before.before.before.before.before.before.before.before.before.before in
     let a = s.args in
-    of c.squares.result c.squares.type-inv
+    of c.squares.result c.squares.type_inv
     ∙ stored-none (p s) (rs s) a.k a.digits.now a.all.now a.counters.now s.requires.0 c.squares.result
     (c.squares.ensures.0 ∙ ap squares_of (no-numbers (p s) (rs s) 256 s.requires.0.sound.few))
 
 fill-requires : tie.Need-fill-requires
 fill-requires c κs =
-    let q = c.before.before.before.before.before in
-    let s = q.before.before.before.before.before.before.before.before.before.before in
+    let q = c in
+    let s = q.before.before.before.before.before.before.before.before.before.before.before.before.before.before.before in
     let a = s.args in
     let C = s.requires.0 in (
-      counting-again (p s) (rs s) a.k a.digits.now a.all.now a.counters.now q.squares.new.1.1.1.0 C q.squares.ensures.1,
+      counting-again (p s) (rs s) a.k a.digits.now a.all.now a.counters.now q.squares.new.counters C q.squares.ensures.1,
       (
         filling-start (p s) (rs s) a.k a.digits.now a.all.now a.counters.now C _ a.columns.now s.requires.1.0 (no-numbers (p s) (rs s) 256 C.sound.few),
         rw (length-set a.room.now 0 (to_z w64 (of_z w64 q.squares.result))) s.requires.1.1,
@@ -78,16 +78,16 @@ fill-requires c κs =
     )
 
 filled : (c : tie.After-fill) → let s = c.before.before.before.before.before.before.before.before.before.before.before.before.before.before.before.before in
-    c.fill.new.1.1.1.1.1.1.1.1.1.1.1.1.0 ≡ filled_by (base s) (U s) s.args.k 0 s.args.columns.now (set s.args.room.now 0 (U s 0))
+    c.fill.new.room ≡ filled_by (base s) (U s) s.args.k 0 s.args.columns.now (set s.args.room.now 0 (U s 0))
 filled c =
     let q = c.before.before.before.before.before.before in
     let s = q.before.before.before.before.before.before.before.before.before.before in
     c.fill.ensures.0 ∙ filled-as (base s) (U s) s.args.k 0 refl (ap (set s.args.room.now 0) (first q))
 
-as_many : (c : tie.After-fill) → length c.before.before.before.before.before.before.squares.new.1.1.1.0 ≡ length c.before.before.before.before.before.before.before.before.before.before.before.before.before.before.before.before.args.counters.now
-as_many c = let q = c.before.before.before.before.before.before in ap length q.squares.ensures.1 ∙ counters-long (length q.before.before.before.before.before.before.before.before.before.before.args.counters.now) []
+as_many : (c : tie.After-fill) → length c.squares.new.counters ≡ length c.args.counters.now
+as_many c = let q = c in ap length q.squares.ensures.1 ∙ counters-long (length q.args.counters.now) []
 
-same_length : tie.Need-same-length
+same_length : tie.Need-shape_of-room
 same_length c =
     let d = c.before.before.before in
     let s = d.before.before.before.before.before.before.before.before.before.before.before.before.before.before.before.before in
@@ -97,18 +97,18 @@ same_length c =
 returns : tie.Need-returns
 returns c = let d = c.before.before.before in (filled d, d.fill.ensures.1 ∙ ap (λ n. counters_of n []) (as_many d))
 
-pub fill-room-spec : {M : Type 1} → statement M
-fill-room-spec =
+pub fill_room_spec : {M : Type 1} → statement M
+fill_room_spec =
     tie.close
     (tie.spec
-    (λ c. search needs)
-    (λ c. search needs)
+    (λ c. search rules)
+    (λ c. search rules)
     slice-aggregate-squares
     squares-requires
     slice-set-from-room
-    (λ c. search needs)
+    (λ c. search rules)
     slice-aggregate-fill
     fill-requires
     same_length
-    (λ c. search needs)
+    (λ c. search rules)
     returns)

@@ -71,7 +71,7 @@ module _ (t : ℕ) (c : lts.After-squares (claims t) (given t) reads.Post) where
   bare = c.before.before.before.before.before.before.before
 
   leaf : to_z w64 (of_z w64 bare.args.weight) *ℤ to_z w64 (of_z w64 c.squares.result) ≡ bare.args.weight *ℤ squares_of (numbers t bare)
-  leaf = ap₂ (λ x y. x *ℤ y) (back bare.fits.weight) (of c.squares.result c.squares.type-inv ∙ c.squares.ensures.0)
+  leaf = ap₂ (λ x y. x *ℤ y) (back bare.fits.weight) (of c.squares.result c.squares.type_inv ∙ c.squares.ensures.0)
 
 squares-requires : (t : ℕ) → lts.Need-squares-requires (claims t) (given t) reads.Post
 squares-requires t c κs = let s = c.before.before.before.before.before.before in ((weighed t s).few-runs, s.requires.1.1)
@@ -84,7 +84,7 @@ mul-requires t c κs =
 returns : (t : ℕ) → lts.Need-returns (claims t) (given t) reads.Post
 returns t c =
     let s = bare t c.before in (
-      of c.mul.result c.mul.type-inv ∙ c.mul.ensures ∙ leaf t c.before
+      of c.mul.result c.mul.type_inv ∙ c.mul.ensures ∙ leaf t c.before
           ∙ over_none (levels t s) (columns t s) (digits t s) (numbers t s) s.args.weight (weighed t s) c.before.before.before.if1.true,
       c.before.squares.ensures.1,
     )
@@ -127,7 +127,7 @@ of-byte-requires t c κs = tt
 
 -- the level, read back from its bits
 level : (t : ℕ) (c : lts.After-of-byte (claims t) (given t) reads.Post) → to_z w64 (of_z w64 c.of-byte.result) ≡ pos (s t c.before.before.before.before)
-level t c = of c.of-byte.result c.of-byte.type-inv ∙ c.of-byte.ensures
+level t c = of c.of-byte.result c.of-byte.type_inv ∙ c.of-byte.ensures
 
 sub-requires : (t : ℕ) → lts.Need-sub-requires (claims t) (given t) reads.Post
 sub-requires t c κs =
@@ -141,7 +141,7 @@ heavy : (t : ℕ) (c : lts.After-sub (claims t) (given t) reads.Post) → let e 
 heavy t c =
     let e = c.before.before.before.before.before in
     ap₂ (λ x y. x *ℤ y)
-    (of c.sub.result c.sub.type-inv ∙ c.sub.ensures ∙ ap (λ z. pos 0 -ℤ z) (level t c.before) ∙ +ℤ_idl (neg_ℤ (pos (s t e))))
+    (of c.sub.result c.sub.type_inv ∙ c.sub.ensures ∙ ap (λ z. pos 0 -ℤ z) (level t c.before) ∙ +ℤ_idl (neg_ℤ (pos (s t e))))
     (back (start t e).ranges.weight)
 
 mul-requires-2 : (t : ℕ) → lts.Need-mul-requires-2 (claims t) (given t) reads.Post
@@ -187,7 +187,7 @@ module _ (t : ℕ) (c : lts.After-mul2 (claims t) (given t) reads.Post) where
   held = longer-held (s t else) (numbers t first) (digits t first) c.before.before.before.longer.result c.before.before.before.longer.ensures
 
   weight : to_z w64 (of_z w64 c.mul2.result) ≡ heavier t else
-  weight = of c.mul2.result c.mul2.type-inv ∙ c.mul2.ensures ∙ heavy t c.before
+  weight = of c.mul2.result c.mul2.type_inv ∙ c.mul2.ensures ∙ heavy t c.before
 
   fewer : length (take (length (columns t first) - 1) (drop 1 (columns t first))) < t
   fewer = rw (from_place (columns t first) 1) (omega (arith, length-drop 1 (columns t first), first.pre.0, some t else))
@@ -233,9 +233,9 @@ halves t c =
     let s = first t d in
     let w = c.before.before.over-parts in
     ap₂ (λ x y. x +ℤ y)
-    (of w.result w.type-inv ∙ w.ensures.0
+    (of w.result w.type_inv ∙ w.ensures.0
     ∙ over-as (levels t s) (from_place (columns t s) 1) (from_place (digits t s) (length (numbers t s))) (taken t d) (weight t d))
-    (of c.over-parts2.result c.over-parts2.type-inv ∙ c.over-parts2.ensures.0
+    (of c.over-parts2.result c.over-parts2.type_inv ∙ c.over-parts2.ensures.0
     ∙ over-as (levels t s) (from_place (columns t s) 1) (from_place (digits t s) (length (numbers t s))) refl (back s.fits.weight))
     ∙ over-step (levels t s) (columns t s) (digits t s) (numbers t s) s.args.weight (weighed t s) (some t (else t d))
 
@@ -245,7 +245,7 @@ add-requires t c κs =
     rw (halves t c) (omega (arith, over-small (levels t s) (columns t s) (digits t s) (numbers t s) s.args.weight (weighed t s)))
 
 returns-2 : (t : ℕ) → lts.Need-returns-2 (claims t) (given t) reads.Post
-returns-2 t c = (of c.add.result c.add.type-inv ∙ c.add.ensures ∙ halves t c.before, c.before.over-parts2.ensures.1)
+returns-2 t c = (of c.add.result c.add.type_inv ∙ c.add.ensures ∙ halves t c.before, c.before.over-parts2.ensures.1)
 
 pub +over-parts-spec : {M : Type 1} → statement M
 +over-parts-spec =

@@ -7,90 +7,90 @@ use Rattle.parts.proofs.Squared.{squares-none, counted-turn, squares-turn, count
 use Rattle.parts.proofs.count.Statement.{statement}
 use Rattle.parts.proofs.count.Tie as tie
 
-abbrev invariant-loop : tie.invariant-loop
-invariant-loop numbers counters₀ total₀ k₀ counters total k =
+abbrev invariant-loop-k : tie.invariant-loop-k
+invariant-loop-k numbers counters₀ total₀ k₀ counters total k =
     (k ≤ length numbers) × (counters ≡ counted (drop k numbers)) × (pos total ≡ squares_of (drop k numbers))
 
-abbrev decreases-loop : tie.decreases-loop
-decreases-loop numbers counters₀ total₀ k₀ counters total k = k
+abbrev decreases-loop-k : tie.decreases-loop-k
+decreases-loop-k numbers counters₀ total₀ k₀ counters total k = k
 
-loop-holds : tie.Need-loop-init invariant-loop decreases-loop
+loop-holds : tie.Need-loop-k-init invariant-loop-k decreases-loop-k
 loop-holds c =
     let xs = c.args.numbers.now in
     (omega arith, c.requires.1 ∙ ap counted (sym (drop-length xs)), sym squares-none ∙ ap squares_of (sym (drop-length xs)))
 
-module _ (c : tie.After-shared-slice-known invariant-loop decreases-loop) where
+module _ (c : tie.After-shared_slice_known-1 invariant-loop-k decreases-loop-k) where
   abbrev xs : List ℕ
-  xs = c.before.before.before.args.numbers.now
+  xs = c.args.numbers.now
 
   abbrev x : ℕ
-  x = get_or xs (c.before.before.loop.k - 1) 0
+  x = get_or xs (c.loop-k.k - 1) 0
 
   -- 16 bits
   small : x < most_numbers
-  small = omega (arith, c.shared-slice-known.given (c.before.before.loop.k - 1))
+  small = omega (arith, c.shared_slice_known-1.given (c.loop-k.k - 1))
 
   -- a run was counted at most once
-  counter : get_or c.before.before.loop.counters x 0 ≤ most_runs
+  counter : get_or c.loop-k.counters x 0 ≤ most_runs
   counter =
-      let l = c.before.before in
-      omega (arith, l.before.requires.0, counter-small xs l.loop.k l.loop.counters l.loop.invariant.1 (omega arith) l.loop.invariant.0 small)
+      let l = c in
+      omega (arith, l.requires.0, counter-small xs l.loop-k.k l.loop-k.counters l.loop-k.invariant.1 (omega arith) l.loop-k.invariant.0 small)
 
-cast-number : tie.Need-overflow-cast-number invariant-loop decreases-loop
+cast-number : tie.Need-overflow_cast-number invariant-loop-k decreases-loop-k
 cast-number c = omega (arith, small c)
 
-mul-before : tie.Need-overflow-mul-before invariant-loop decreases-loop
+mul-before : tie.Need-offset_bounds-counters-number invariant-loop-k decreases-loop-k
 mul-before c = omega (arith, small c)
 
-element-copy-out-before : tie.Need-element-copy-out-before invariant-loop decreases-loop
-element-copy-out-before c = small c
+element-copy-out-before : tie.Need-bounds-counters-number invariant-loop-k decreases-loop-k
+element-copy-out-before c = small c.before
 
-cast-total : tie.Need-overflow-cast-total invariant-loop decreases-loop
-cast-total c = omega (arith, counter c.before)
+cast-total : tie.Need-overflow_cast-total invariant-loop-k decreases-loop-k
+cast-total c = omega (arith, counter c.before.before)
 
-mul-total : tie.Need-overflow-mul-total invariant-loop decreases-loop
-mul-total c = omega (arith, counter c.before)
+mul-total : tie.Need-overflow_mul-total invariant-loop-k decreases-loop-k
+mul-total c = omega (arith, counter c.before.before)
 
-add_total : tie.Need-overflow-add-total invariant-loop decreases-loop
-add_total c = omega (arith, counter c.before)
+add_total : tie.Need-overflow_add-total invariant-loop-k decreases-loop-k
+add_total c = omega (arith, counter c.before.before)
 
-add-total-2 : tie.Need-overflow-add-total-2 invariant-loop decreases-loop
+add-total-2 : tie.Need-overflow_add-total-in-loop-k invariant-loop-k decreases-loop-k
 add-total-2 c =
-    let l = c.before.before.before in
-    let rest = drop l.loop.k l.before.args.numbers.now in
+    let l = c in
+    let rest = drop l.loop-k.k l.args.numbers.now in
     omega (
       arith,
-      counter c.before,
-      squares-small l.loop.total rest l.loop.invariant.2 (omega (arith, length-drop l.loop.k l.before.args.numbers.now, l.before.requires.0)),
+      counter c.before.before,
+      squares-small l.loop-k.total rest l.loop-k.invariant.2 (omega (arith, length-drop l.loop-k.k l.args.numbers.now, l.requires.0)),
     )
 
-add-counters : tie.Need-overflow-add-counters invariant-loop decreases-loop
-add-counters c = omega (arith, counter c.before)
+add-counters : tie.Need-overflow_add-counters invariant-loop-k decreases-loop-k
+add-counters c = omega (arith, counter c.before.before)
 
-mul-counters : tie.Need-overflow-mul-counters invariant-loop decreases-loop
-mul-counters c = omega (arith, small c.before)
+mul-counters : tie.Need-offset_bounds-counters-number-in-loop-k invariant-loop-k decreases-loop-k
+mul-counters c = omega (arith, small c.before.before)
 
-element-write-counters : tie.Need-element-write-counters invariant-loop decreases-loop
-element-write-counters c = small c.before
+element-write-counters : tie.Need-bounds-counters-number-in-loop-k invariant-loop-k decreases-loop-k
+element-write-counters c = small c.before.before
 
-loop-again : tie.Need-loop-preserved invariant-loop decreases-loop
+loop-again : tie.Need-loop-k-preserved invariant-loop-k decreases-loop-k
 loop-again c =
-    let l = c.before.before.before in
-    let xs = l.before.args.numbers.now in (
+    let l = c in
+    let xs = l.args.numbers.now in (
       omega arith,
-      counted-turn xs l.loop.k l.loop.counters l.loop.invariant.1 (omega arith) l.loop.invariant.0 (small c.before),
-      squares-turn xs l.loop.k l.loop.counters l.loop.invariant.1 (omega arith) l.loop.invariant.0 (small c.before) l.loop.total l.loop.invariant.2,
+      counted-turn xs l.loop-k.k l.loop-k.counters l.loop-k.invariant.1 (omega arith) l.loop-k.invariant.0 (small c.before.before),
+      squares-turn xs l.loop-k.k l.loop-k.counters l.loop-k.invariant.1 (omega arith) l.loop-k.invariant.0 (small c.before.before) l.loop-k.total l.loop-k.invariant.2,
     )
 
-returns : tie.Need-returns invariant-loop decreases-loop
-returns c = let z : c.before.loop.k ≡ 0 = omega arith in (rw z at c.before.loop.invariant.2, rw z at c.before.loop.invariant.1)
+returns : tie.Need-returns invariant-loop-k decreases-loop-k
+returns c = let z : c.loop-k.k ≡ 0 = omega arith in (rw z at c.loop-k.invariant.2, rw z at c.loop-k.invariant.1)
 
 pub count_spec : {M : Type 1} → statement M
 count_spec =
     tie.close
     (tie.spec
-    invariant-loop
-    decreases-loop
+    invariant-loop-k
+    decreases-loop-k
     loop-holds
     (λ c. omega arith)
     (λ c. omega arith)

@@ -20,11 +20,11 @@ odd (suc (suc (suc zero))) h e = refl
 odd (suc (suc (suc (suc zero)))) h e = absurd (e refl)
 odd (suc (suc (suc (suc (suc f))))) h e = absurd (omega arith)
 
-returns : tie.Need-returns
-returns c = even c.before.args.f c.before.requires c.if1.true
+returns : tie.Need-returns-then-f-eq0
+returns c = even c.args.f c.requires c.if-f-eq0.true
 
-returns-2 : tie.Need-returns-2
-returns-2 c = odd c.before.args.f c.before.requires c.if1.false
+returns-2 : tie.Need-returns-else-f-eq0
+returns-2 c = odd c.args.f c.requires c.if-f-eq0.false
 
-pub sign-spec : {M : Type 1} → statement M
-sign-spec = tie.close (tie.spec returns returns-2)
+pub sign_spec : {M : Type 1} → statement M
+sign_spec = tie.close (tie.spec returns returns-2)

@@ -1,5 +1,5 @@
 -- `parts::word` meets its contract: before the first column every run has the number 0, and the weight is the empty part's sign.
-use Rattle.exact.proofs.Ground.{List, ◌≡◌, ◌∙◌, sym, refl, ℕ, length, replicate, length-take-le, needs, w64, to_z, of_z}
+use Rattle.exact.proofs.Ground.{List, ◌≡◌, ◌∙◌, sym, refl, ℕ, length, replicate, length-take-le, rules, w64, to_z, of_z}
 use Rattle.exact.proofs.Bits.{of}
 use Rattle.rules.specs.Plan.{Plan, plan}
 use Rattle.parts.specs.Parts.{sign}
@@ -19,28 +19,28 @@ module _ (s : tie.Start) where
   I = s.args.columns.now
 
 -- the weight, read back from its bits
-weight : (c : tie.After-sign) → to_z w64 (of_z w64 c.sign.result) ≡ sign (length (I c.before.before.before.before.before.before))
-weight c = of c.sign.result c.sign.type-inv ∙ c.sign.ensures
+weight : (c : tie.After-sign-weight) → to_z w64 (of_z w64 c.sign-weight.result) ≡ sign (length (I c.before.before.before.before.before.before))
+weight c = of c.sign-weight.result c.sign-weight.type_inv ∙ c.sign-weight.ensures
 
-turned-requires : tie.Need-turned-requires
-turned-requires c κs = let s = c.before.before.before.before in (s.requires.0, s.requires.1.0)
+turned-requires : tie.Need-turned-digits-requires
+turned-requires c κs = let s = c in (s.requires.0, s.requires.1.0)
 
-sign-requires : tie.Need-sign-requires
-sign-requires c κs = c.before.before.before.before.before.requires.1.0.1
+sign-requires : tie.Need-sign-weight-requires
+sign-requires c κs = c.requires.1.0.1
 
-array-share-prefix-numbers : tie.Need-array-share-prefix-numbers
-array-share-prefix-numbers c = c.before.before.before.before.before.before.before.requires.0.few
+array-share-prefix-numbers : tie.Need-slice_bounds-numbers-end
+array-share-prefix-numbers c = c.requires.0.few
 
-slice-aggregate-over-parts-2 : tie.Need-slice-aggregate-over-parts-2
+slice-aggregate-over-parts-2 : tie.Need-slice_bounds-over_parts-end-2
 slice-aggregate-over-parts-2 c =
-    let s = c.before.before.before.before.before.before.before.before in
+    let s = c in
     sym (length-take-le (length s.args.runs.now) (replicate 256 0) s.requires.0.few)
 
-over-parts-requires : tie.Need-over-parts-requires
+over-parts-requires : tie.Need-over_parts-requires
 over-parts-requires c κs =
     let d = c.before.before.before in
     let s = d.before.before.before.before.before.before in (
-      weighed-as s.args.levels.now refl d.before.turned.ensures (no-numbers (given s) (rs s) (I s) s.requires.0 s.requires.1.0.0 s.requires.1.0.1) (weight d)
+      weighed-as s.args.levels.now refl d.turned-digits.ensures (no-numbers (given s) (rs s) (I s) s.requires.0 s.requires.1.0.0 s.requires.1.0.1) (weight d)
           (begun (given s) (rs s) (I s) s.requires.0 s.requires.1.0.0 s.requires.1.0.1),
       s.requires.1.1,
     )
@@ -49,19 +49,19 @@ returns : tie.Need-returns
 returns c =
     let d = c.before.before.before.before in
     let s = d.before.before.before.before.before.before in (
-      of c.over-parts.result c.over-parts.type-inv ∙ c.over-parts.ensures.0
-          ∙ over-as {I = I s} s.args.levels.now refl d.before.turned.ensures (no-numbers (given s) (rs s) (I s) s.requires.0 s.requires.1.0.0 s.requires.1.0.1) (weight d)
+      of c.over_parts.result c.over_parts.type_inv ∙ c.over_parts.ensures.0
+          ∙ over-as {I = I s} s.args.levels.now refl d.turned-digits.ensures (no-numbers (given s) (rs s) (I s) s.requires.0 s.requires.1.0.0 s.requires.1.0.1) (weight d)
           ∙ word-found (given s) (rs s) (I s) s.requires.0 s.requires.1.0.0 s.requires.1.0.1,
-      c.over-parts.ensures.1,
+      c.over_parts.ensures.1,
     )
 
-pub word-spec : {M : Type 1} → statement M
-word-spec =
+pub word_spec : {M : Type 1} → statement M
+word_spec =
     tie.close
     (tie.spec
     turned-requires
     sign-requires
-    (λ c. search needs)
+    (λ c. search rules)
     array-share-prefix-numbers
     slice-aggregate-over-parts-2
     over-parts-requires

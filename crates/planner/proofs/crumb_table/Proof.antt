@@ -1,5 +1,5 @@
 -- `planner::crumb_table` meets its contract: it is the library's answer, with a refusal's number negated.
-use Rattle.exact.proofs.Ground.{List, [], ◌∙◌, sym, ℕ, arith, needs}
+use Rattle.exact.proofs.Ground.{List, [], ◌∙◌, sym, ℕ, arith, rules}
 use Rattle.exact.proofs.Bits.{of}
 use Rattle.rules.specs.Plan.{Plan, plan}
 use Rattle.rules.specs.Refusals.{refusal}
@@ -13,7 +13,7 @@ use Rattle.planner.proofs.Calls.{call-number}
 use Rattle.planner.proofs.crumb_table.Statement.{statement}
 use Rattle.planner.proofs.crumb_table.Tie as tie
 
-module _ (k : tie.After-table-marked) where
+module _ (k : tie.After-table_marked-answer) where
   abbrev start : tie.Start
   start = k.before.before.before.before.before.before.before.before.before.before
 
@@ -26,7 +26,7 @@ module _ (k : tie.After-table-marked) where
   abbrev lent : Rooms
   lent = rooms start.args.nums.now start.args.dens.now start.args.counts.now
 
-of-size-requires : tie.Need-of-size-requires
+of-size-requires : tie.Need-of_size-requires
 of-size-requires c κs =
     let k = c.before.before.before.before.before.before.before in
     let a = (start k).args in
@@ -34,32 +34,32 @@ of-size-requires c κs =
     let handed = begun-handed (given k) (marks k) (table_checks (given k) rs (is_relative a.relative) a.size (lent k)) tt in
     let fits =
     lines_fit (given k) rs (is_relative a.relative) a.size (lent k) (of_marked (given k) (marks k)) (refusal (of_marked (given k) (marks k) []))
-    (sym handed) k.table-marked.ensures.0 in
+    (sym handed) k.table_marked-answer.ensures.0 in
     omega (arith, fits, (start k).well-formed)
 
-number-or-requires : tie.Need-number-or-requires
+number-or-requires : tie.Need-number_or-requires
 number-or-requires c κs =
     let k = c.before.before.before.before.before.before.before.before in
     let a = (start k).args in
-    rw k.table-marked.ensures.0 (call-number (table-marked (given k) (marks k) (is_relative a.relative) a.size (lent k)))
+    rw k.table_marked-answer.ensures.0 (call-number (table-marked (given k) (marks k) (is_relative a.relative) a.size (lent k)))
 
 returns : tie.Need-returns
 returns c =
-    let k = c.before.before.before.before.before.before.before.before.before in
-    let s = c.before.of_size in (
-      of c.number-or.result c.number-or.type-inv ∙ c.number-or.ensures
-          ∙ rw (of s.result s.type-inv, s.ensures, k.table-marked.ensures.0),
-      k.table-marked.ensures.1,
+    let k = c in
+    let s = c.of_size in (
+      of c.number_or.result c.number_or.type_inv ∙ c.number_or.ensures
+          ∙ rw (of s.result s.type_inv, s.ensures, k.table_marked-answer.ensures.0),
+      k.table_marked-answer.ensures.1,
     )
 
-pub crumb-table-spec : {M : Type 1} → statement M
-crumb-table-spec =
+pub crumb_table_spec : {M : Type 1} → statement M
+crumb_table_spec =
     tie.close
     (tie.spec
-    (λ c κs. search needs)
+    (λ c κs. search rules)
     of-size-requires
     number-or-requires
-    (λ c. search needs)
-    (λ c. search needs)
-    (λ c. search needs)
+    (λ c. search rules)
+    (λ c. search rules)
+    (λ c. search rules)
     returns)

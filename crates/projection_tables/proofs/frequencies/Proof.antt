@@ -1,5 +1,5 @@
 -- `projection_tables::frequencies` meets its contract: the routine is handed the plan's refusal and all its runs.
-use Rattle.exact.proofs.Ground.{List, ◌∙◌, ℕ, length, needs}
+use Rattle.exact.proofs.Ground.{List, ◌∙◌, ℕ, length, rules}
 use Rattle.rules.specs.Plan.{Plan, plan}
 use Rattle.rules.specs.Refusals.{Check}
 use Rattle.plan.proofs.CheckedRuns.{checked-fits, checked-long, checked-sound, handed-answer}
@@ -8,7 +8,7 @@ use Rattle.projection_tables.specs.Tables.{Line, Rooms, rooms, rooms_filled, tab
 use Rattle.projection_tables.proofs.frequencies.Statement.{statement}
 use Rattle.projection_tables.proofs.frequencies.Tie as tie
 
-module _ (k : tie.After-checked-runs) where
+module _ (k : tie.After-checked_runs-checked) where
   abbrev start : tie.Start
   start = k.before.before.before.before.before.before
 
@@ -24,49 +24,49 @@ module _ (k : tie.After-checked-runs) where
   abbrev checks : List ℕ → List Check
   checks rs = table_checks given rs start.args.relative start.args.f lent
 
-array-share-prefix-runs : tie.Need-array-share-prefix-runs
-array-share-prefix-runs c = let k = c.before in checked-fits (given k) k.checked-runs.ensures
+array-share-prefix-runs : tie.Need-slice_bounds-runs-end
+array-share-prefix-runs c = let k = c.before.before in checked-fits (given k) k.checked_runs-checked.ensures
 
-slice-aggregate-words-wanted : tie.Need-slice-aggregate-words-wanted
-slice-aggregate-words-wanted c = let k = c.before.before in checked-long (given k) k.checked-runs.ensures
+slice-aggregate-words-wanted : tie.Need-slice_bounds-words_wanted-end
+slice-aggregate-words-wanted c = let k = c.before.before.before in checked-long (given k) k.checked_runs-checked.ensures
 
-words-wanted-requires : tie.Need-words-wanted-requires
-words-wanted-requires c κs z = let k = c.before.before in checked-sound (given k) k.checked-runs.ensures z
+words-wanted-requires : tie.Need-words_wanted-words-requires
+words-wanted-requires c κs z = let k = c.before.before.before in checked-sound (given k) k.checked_runs-checked.ensures z
 
-array-share-prefix-runs-2 : tie.Need-array-share-prefix-runs-2
-array-share-prefix-runs-2 c = let k = c.before.before.before in checked-fits (given k) k.checked-runs.ensures
+array-share-prefix-runs-2 : tie.Need-slice_bounds-runs-end-2
+array-share-prefix-runs-2 c = let k = c.before.before.before.before.before in checked-fits (given k) k.checked_runs-checked.ensures
 
-slice-aggregate-table-answer : tie.Need-slice-aggregate-table-answer
-slice-aggregate-table-answer c = let k = c.before.before.before.before in checked-long (given k) k.checked-runs.ensures
+slice-aggregate-table-answer : tie.Need-slice_bounds-table_answer-end
+slice-aggregate-table-answer c = let k = c.before.before.before.before.before.before in checked-long (given k) k.checked_runs-checked.ensures
 
-table-answer-requires : tie.Need-table-answer-requires
+table-answer-requires : tie.Need-table_answer-requires
 table-answer-requires c κs z =
-    let w = c.before.before.before.before.before in
-    let k = w.before.before.before in
-    record { tabled = checked-tabled (given k) k.checked-runs.ensures z; of-runs = w.words-wanted.ensures z }
+    let w = c in
+    let k = w.before.before.before.before.before.before.before.before.before.before in
+    record { tabled = checked-tabled (given k) k.checked_runs-checked.ensures z; of-runs = w.words_wanted-words.ensures z }
 
 returns : tie.Need-returns
 unfolding table_answer table_rooms
 returns c =
-    let t = c.before.before.before.before.before.before in
-    let k = t.before.before.before.before.before.before.before.before.before in
-    let e = k.checked-runs.ensures in (
-      t.table-answer.ensures.0 ∙ handed-answer (given k) e (checks k) tt (λ r n. record { refused = r; lines = n }) 0 (λ rs. length (lines k rs)),
-      t.table-answer.ensures.1 ∙ handed-answer (given k) e (checks k) tt (λ r R. R) (lent k) (λ rs. rooms_filled (lines k rs) (lent k)),
+    let t = c in
+    let k = t.before.before.before.before.before.before.before.before.before.before.before.before.before.before.before.before.before in
+    let e = k.checked_runs-checked.ensures in (
+      t.table_answer.ensures.0 ∙ handed-answer (given k) e (checks k) tt (λ r n. record { refused = r; lines = n }) 0 (λ rs. length (lines k rs)),
+      t.table_answer.ensures.1 ∙ handed-answer (given k) e (checks k) tt (λ r R. R) (lent k) (λ rs. rooms_filled (lines k rs) (lent k)),
     )
 
-pub frequencies-spec : {M : Type 1} → statement M
-frequencies-spec =
+pub frequencies_spec : {M : Type 1} → statement M
+frequencies_spec =
     tie.close
     (tie.spec
-    (λ c κs. search needs)
+    (λ c κs. search rules)
     array-share-prefix-runs
     slice-aggregate-words-wanted
     words-wanted-requires
     array-share-prefix-runs-2
     slice-aggregate-table-answer
     table-answer-requires
-    (λ c. search needs)
-    (λ c. search needs)
-    (λ c. search needs)
+    (λ c. search rules)
+    (λ c. search rules)
+    (λ c. search rules)
     returns)

@@ -3,33 +3,33 @@ use Rattle.exact.proofs.Ground.{◌-◌, arith}
 use Rattle.published.proofs.main.Statement.{statement}
 use Rattle.published.proofs.main.Tie as tie
 
-abbrev invariant-loop : tie.invariant-loop
-invariant-loop n i₀ i = Unit {0}
+abbrev invariant-loop-i : tie.invariant-loop-i
+invariant-loop-i n i₀ i = Unit {0}
 
-abbrev decreases-loop : tie.decreases-loop
-decreases-loop n i₀ i = n - i
+abbrev decreases-loop-i : tie.decreases-loop-i
+decreases-loop-i n i₀ i = n - i
 
-arg-count-requires : tie.Need-arg-count-requires invariant-loop decreases-loop
+arg-count-requires : tie.Need-arg_count-n-requires invariant-loop-i decreases-loop-i
 arg-count-requires c κs = tt
 
-loop-holds : tie.Need-loop-init invariant-loop decreases-loop
+loop-holds : tie.Need-loop-i-init invariant-loop-i decreases-loop-i
 loop-holds c = tt
 
-show-file-requires : tie.Need-show-file-requires invariant-loop decreases-loop
+show-file-requires : tie.Need-show_file-requires invariant-loop-i decreases-loop-i
 show-file-requires c κs = tt
 
-loop-again : tie.Need-loop-preserved invariant-loop decreases-loop
+loop-again : tie.Need-loop-i-preserved invariant-loop-i decreases-loop-i
 loop-again c = tt
 
-returns : tie.Need-returns invariant-loop decreases-loop
+returns : tie.Need-returns invariant-loop-i decreases-loop-i
 returns c = tt
 
 pub main_spec : {M : Type 1} → statement M
 main_spec =
     tie.close
     (tie.spec
-    invariant-loop
-    decreases-loop
+    invariant-loop-i
+    decreases-loop-i
     arg-count-requires
     loop-holds
     show-file-requires

@@ -1,5 +1,5 @@
 -- `last_columns` meets its contract: before place k the ratios are those of the sets that end with an earlier column.
-use Rattle.exact.proofs.Ground.{List, [], map, ◌≡◌, ◌∙◌, sym, ap, refl, subst, ℕ, ◌≤◌, ◌<◌, ◌-◌, ◌+◌, ◌*◌, arith, length, get_or, take, drop, set, needs, ◌++◌, ◌∷◌, length-drop, le_trans, ap₂, add-one}
+use Rattle.exact.proofs.Ground.{List, [], map, ◌≡◌, ◌∙◌, sym, ap, refl, subst, ℕ, ◌≤◌, ◌<◌, ◌-◌, ◌+◌, ◌*◌, arith, length, get_or, take, drop, set, rules, ◌++◌, ◌∷◌, length-drop, le_trans, ap₂, add-one}
 use Rattle.exact.proofs.Ground.{length-set, length-map, length-take-le, take_all, ◌^◌}
 use lib.Seq.{take-suc-set, take-set-le}
 use Rattle.exact.specs.Lists.{holds}
@@ -19,26 +19,26 @@ use Rattle.ratios.proofs.Walks.{ending, ended, ending-all, ending-next, ending-e
 use Rattle.ratios.proofs.last_columns.Statement.{statement}
 use Rattle.ratios.proofs.last_columns.Tie as tie
 
-abbrev invariant-loop : tie.invariant-loop
-invariant-loop levels table runs rest digits depth numbers column counters₀ n with₀ ratios₀ k₀ k-end counters with ratios k =
+abbrev invariant-loop-k : tie.invariant-loop-k
+invariant-loop-k levels table runs rest digits depth numbers column counters₀ n with₀ ratios₀ k₀ k-end counters with ratios k =
     let p = plan levels table in
     (k ≤ length rest) × (k-end ≡ length rest) × (length with ≡ 24) × (take depth with ≡ take depth with₀)
     × (ratios ≡ further p runs column ratios₀ (ending p runs (take depth with₀) (take k rest))) × ShortRatios ratios × (counters ≡ counters₀)
 
-abbrev decreases-loop : tie.decreases-loop
-decreases-loop levels table runs rest digits depth numbers column counters₀ n with₀ ratios₀ k₀ k-end counters with ratios k = length rest - k
+abbrev decreases-loop-k : tie.decreases-loop-k
+decreases-loop-k levels table runs rest digits depth numbers column counters₀ n with₀ ratios₀ k₀ k-end counters with ratios k = length rest - k
 
-loop-holds : tie.Need-loop-init invariant-loop decreases-loop
+loop-holds : tie.Need-loop-k-init invariant-loop-k decreases-loop-k
 loop-holds c =
-    let s = c.before.before.before.before.before.before.before in
+    let s = c in
     (omega arith, refl, s.requires.0.1.1, refl, refl, s.requires.1.1.0, refl)
 
-few-left : (l : tie.At-loop invariant-loop decreases-loop) → l.loop.k < 2 ^ 63
+few-left : (l : tie.At-loop-k invariant-loop-k decreases-loop-k) → l.loop-k.k < 2 ^ 63
 few-left l = omega arith
 
 -- the set of a turn, and its last column
-module _ (l : tie.At-loop invariant-loop decreases-loop) (h : l.loop.k < length l.before.before.before.before.before.before.before.before.args.rest.now) where
-  abbrev s : tie.Start invariant-loop decreases-loop
+module _ (l : tie.At-loop-k invariant-loop-k decreases-loop-k) (h : l.loop-k.k < length l.before.before.before.before.before.before.before.before.args.rest.now) where
+  abbrev s : tie.Start invariant-loop-k decreases-loop-k
   s = l.before.before.before.before.before.before.before.before
 
   abbrev p : Plan
@@ -54,139 +54,139 @@ module _ (l : tie.At-loop invariant-loop decreases-loop) (h : l.loop.k < length 
   rest = s.args.rest.now
 
   abbrev i : ℕ
-  i = get_or rest l.loop.k 0
+  i = get_or rest l.loop-k.k 0
 
   abbrev own : List ℕ
-  own = ended p rs P rest l.loop.k h
+  own = ended p rs P rest l.loop-k.k h
 
   walking : Walking p rs P rest 1
-  walking = s.pre.0.0
+  walking = s.requires.0.0
 
-  low : s.args.depth < length l.loop.with
-  low = omega (arith, l.loop.inv.2, s.pre.0.1.0)
+  low : s.args.depth < length l.loop-k.with
+  low = omega (arith, l.loop-k.invariant.2, s.requires.0.1.0)
 
-  front : take (s.args.depth + 1) (set l.loop.with s.args.depth i) ≡ own
-  front = rw (add-one s.args.depth) (take-suc-set l.loop.with s.args.depth i low) ∙ ap (λ J. J ++ i ∷ []) l.loop.inv.3
+  front : take (s.args.depth + 1) (set l.loop-k.with s.args.depth i) ≡ own
+  front = rw (add-one s.args.depth) (take-suc-set l.loop-k.with s.args.depth i low) ∙ ap (λ J. J ++ i ∷ []) l.loop-k.invariant.3
 
-  held : s.args.depth + 1 ≤ length (set l.loop.with s.args.depth i)
-  held = rw (length-set l.loop.with s.args.depth i) (omega (arith, low))
+  held : s.args.depth + 1 ≤ length (set l.loop-k.with s.args.depth i)
+  held = rw (length-set l.loop-k.with s.args.depth i) (omega (arith, low))
 
   inside : i < length s.args.levels.now
-  inside = walking.inside i (get_or-mem rest l.loop.k 0 h)
+  inside = walking.inside i (get_or-mem rest l.loop-k.k 0 h)
 
   many : length s.args.numbers.now ≡ length rs
-  many = ap length s.pre.1.0.0 ∙ length-map rs (λ f. number_of (level p) (entry p) f P)
+  many = ap length s.requires.1.0.0 ∙ length-map rs (λ f. number_of (level p) (entry p) f P)
 
-  row : l.loop.k * length s.args.numbers.now + length s.args.numbers.now ≤ length s.args.digits.now
+  row : l.loop-k.k * length s.args.numbers.now + length s.args.numbers.now ≤ length s.args.digits.now
   row =
-      rw many (le_trans (row_within l.loop.k (length rest) (length rs) h)
-      (omega (arith, ap length s.pre.1.0.1, turned-length (entry p) rs rest)))
+      rw many (le_trans (row_within l.loop-k.k (length rest) (length rs) h)
+      (omega (arith, ap length s.requires.1.0.1, turned-length (entry p) rs rest)))
 
   -- the digits lent begin with those of the column
-  lent : take (length s.args.digits.now - l.loop.k * length s.args.numbers.now) (drop (l.loop.k * length s.args.numbers.now) s.args.digits.now)
-      ≡ drop (l.loop.k * length rs) (turned (entry p) rs rest)
+  lent : take (length s.args.digits.now - l.loop-k.k * length s.args.numbers.now) (drop (l.loop-k.k * length s.args.numbers.now) s.args.digits.now)
+      ≡ drop (l.loop-k.k * length rs) (turned (entry p) rs rest)
   lent =
-      from_place s.args.digits.now (l.loop.k * length s.args.numbers.now)
-      ∙ ap₂ (λ j ds. drop (l.loop.k * j) ds) many s.pre.1.0.1
+      from_place s.args.digits.now (l.loop-k.k * length s.args.numbers.now)
+      ∙ ap₂ (λ j ds. drop (l.loop-k.k * j) ds) many s.requires.1.0.1
 
-array-share-prefix-with : tie.Need-array-share-prefix-with invariant-loop decreases-loop
-array-share-prefix-with c = held c.before.before c.before.loop-test.true
+array-share-prefix-with : tie.Need-slice_bounds-with-end invariant-loop-k decreases-loop-k
+array-share-prefix-with c = held c.before.before c.loop-k-test.true
 
-slice-aggregate-columns : tie.Need-slice-aggregate-columns invariant-loop decreases-loop
+slice-aggregate-columns : tie.Need-slice_bounds-columns-end invariant-loop-k decreases-loop-k
 slice-aggregate-columns c =
     let l = c.before.before.before in
-    let h = c.before.before.loop-test.true in
-    sym (length-take-le ((s l h).args.depth + 1) (set l.loop.with (s l h).args.depth (i l h)) (held l h))
+    let h = c.loop-k-test.true in
+    sym (length-take-le ((s l h).args.depth + 1) (set l.loop-k.with (s l h).args.depth (i l h)) (held l h))
 
-shared-slice-read-ratio : tie.Need-shared-slice-read-ratio invariant-loop decreases-loop
-shared-slice-read-ratio c = inside c.before.before.before.before c.before.before.before.loop-test.true
+shared-slice-read-ratio : tie.Need-bounds-levels-i invariant-loop-k decreases-loop-k
+shared-slice-read-ratio c = inside c.before.before.before.before c.loop-k-test.true
 
-mul-ratio : tie.Need-overflow-mul-ratio invariant-loop decreases-loop
-mul-ratio c = omega (arith, row c.before.before.before.before c.before.before.before.loop-test.true)
+mul-ratio : tie.Need-offset_bounds-digits-k invariant-loop-k decreases-loop-k
+mul-ratio c = omega (arith, row c.before.before.before.before c.loop-k-test.true)
 
-sub-ratio : tie.Need-overflow-sub-ratio invariant-loop decreases-loop
-sub-ratio c = omega (arith, row c.before.before.before.before c.before.before.before.loop-test.true)
+sub-ratio : tie.Need-slice_bounds-ratio-count invariant-loop-k decreases-loop-k
+sub-ratio c = omega (arith, row c.before.before.before.before c.loop-k-test.true)
 
-part-ratio-start : tie.Need-slice-bounds-ratio-start invariant-loop decreases-loop
-part-ratio-start c = omega (arith, row c.before.before.before.before c.before.before.before.loop-test.true)
+part-ratio-start : tie.Need-slice_bounds-ratio-start invariant-loop-k decreases-loop-k
+part-ratio-start c = omega (arith, row c.before.before.before.before c.loop-k-test.true)
 
-ratio-requires : tie.Need-ratio-requires invariant-loop decreases-loop
+ratio-requires : tie.Need-ratio-ratio-requires invariant-loop-k decreases-loop-k
 ratio-requires c κs =
     let l = c.before.before.before.before.before.before in
-    let h = c.before.before.before.before.before.loop-test.true in
+    let h = c.loop-k-test.true in
     let a = s l h in
-    let (K, O) = ending-each (p l h) (rs l h) (P l h) (rest l h) l.loop.k h (walking l h) in (
+    let (K, O) = ending-each (p l h) (rs l h) (P l h) (rest l h) l.loop-k.k h (walking l h) in (
       ((walking l h).tabled, (rw (front l h) K, rw (front l h) O)),
       (
         (
           omega (
             arith,
-            ap length (from_place a.args.digits.now (l.loop.k * length a.args.numbers.now)),
-            length-drop (l.loop.k * length a.args.numbers.now) a.args.digits.now,
+            ap length (from_place a.args.digits.now (l.loop-k.k * length a.args.numbers.now)),
+            length-drop (l.loop-k.k * length a.args.numbers.now) a.args.digits.now,
             row l h,
           ),
-          ap₂ (longer (level (p l h) (i l h))) a.pre.1.0.0 (lent l h)
-              ∙ longer-from (p l h) (rs l h) (P l h) (rest l h) l.loop.k h
+          ap₂ (longer (level (p l h) (i l h))) a.requires.1.0.0 (lent l h)
+              ∙ longer-from (p l h) (rs l h) (P l h) (rest l h) l.loop-k.k h
               ∙ ap (numbers_in (p l h) (rs l h)) (sym (front l h)),
         ),
-        subst (Empty (rs l h)) (sym l.loop.invariant.6) a.pre.1.1.1,
+        subst (Empty (rs l h)) (sym l.loop-k.invariant.6) a.requires.1.1.1,
       ),
     )
 
 -- the ratio is that of the set, and whether the set holds the column
-module _ (c : tie.After-holds invariant-loop decreases-loop) where
-  abbrev l : tie.At-loop invariant-loop decreases-loop
+module _ (c : tie.After-holds invariant-loop-k decreases-loop-k) where
+  abbrev l : tie.At-loop-k invariant-loop-k decreases-loop-k
   l = c.before.before.before.before.before.before.before.before.before.before
 
-  abbrev h : l.loop.k < length l.before.before.before.before.before.before.before.before.args.rest.now
-  h = c.before.before.before.before.before.before.before.before.before.loop-test.true
+  abbrev h : l.loop-k.k < length l.args.rest.now
+  h = c.loop-k-test.true
 
-  value : c.before.before.before.ratio.result ≡ relative_of (level (p l h)) (entry (p l h)) (rs l h) (own l h)
-  value = c.before.before.before.ratio.ensures.0 ∙ ap (relative_of (level (p l h)) (entry (p l h)) (rs l h)) (front l h)
+  value : c.ratio-ratio.result ≡ relative_of (level (p l h)) (entry (p l h)) (rs l h) (own l h)
+  value = c.ratio-ratio.ensures.0 ∙ ap (relative_of (level (p l h)) (entry (p l h)) (rs l h)) (front l h)
 
   holding : c.holds.result ≡ holds (s l h).args.column (own l h)
   holding = c.holds.ensures ∙ ap (holds (s l h).args.column) (front l h)
 
-  short : ShortDenominator c.before.before.before.ratio.result
-  short = subst ShortDenominator (sym value) (ending-short (p l h) (rs l h) (P l h) (rest l h) l.loop.k h (walking l h))
+  short : ShortDenominator c.ratio-ratio.result
+  short = subst ShortDenominator (sym value) (ending-short (p l h) (rs l h) (P l h) (rest l h) l.loop-k.k h (walking l h))
 
-loop-again : tie.Need-loop-preserved invariant-loop decreases-loop
+loop-again : tie.Need-loop-k-preserved invariant-loop-k decreases-loop-k
 loop-again c =
     let f = c.before in
     let m = l f in
     let a = (s m (h f)).args in (
       omega (arith, h f),
       refl,
-      simp length-set m.loop.inv.2,
-      take-set-le a.depth m.loop.with a.depth (i m (h f)) (omega arith) ∙ m.loop.inv.3,
-      c.with-ratio.ensures
+      simp length-set m.loop.invariant.2,
+      take-set-le a.depth m.loop.with a.depth (i m (h f)) (omega arith) ∙ m.loop.invariant.3,
+      c.with_ratio-ratios.ensures
           ∙ ap₂ (λ r b. with_ratio m.loop.ratios r b) (value f) (holding f)
-          ∙ ap (λ x. with_ratio x (relative_of (level (p m (h f))) (entry (p m (h f))) (rs m (h f)) (own m (h f))) (holds a.column (own m (h f)))) m.loop.inv.4
+          ∙ ap (λ x. with_ratio x (relative_of (level (p m (h f))) (entry (p m (h f))) (rs m (h f)) (own m (h f))) (holds a.column (own m (h f)))) m.loop.invariant.4
           ∙ sym (ending-next (p m (h f)) (rs m (h f)) (P m (h f)) (rest m (h f)) m.loop.k (h f) a.column a.best),
-      subst ShortRatios (sym c.with-ratio.ensures)
-          (with-short m.loop.ratios f.before.before.before.ratio.result f.holds.result m.loop.inv.5 (short f)),
-      f.before.before.before.ratio.ensures.1 ∙ m.loop.inv.6,
+      subst ShortRatios (sym c.with_ratio-ratios.ensures)
+          (with-short m.loop.ratios f.ratio-ratio.result f.holds.result m.loop.invariant.5 (short f)),
+      f.ratio-ratio.ensures.1 ∙ m.loop.invariant.6,
     )
 
-returns : tie.Need-returns invariant-loop decreases-loop
+returns : tie.Need-returns invariant-loop-k decreases-loop-k
 returns c =
-    let l = c.before in
-    let a = l.before.before.before.before.before.before.before.before.args in
+    let l = c in
+    let a = l.args in
     let q = plan a.levels.now a.table.now in
     let P = take a.depth a.set in (
-      l.loop.invariant.4
+      l.loop-k.invariant.4
           ∙ ap (λ J. further q a.runs.now a.column a.best (ending q a.runs.now P J))
-          (take_all l.loop.k a.rest.now (let e : length a.rest.now ≤ l.loop.k = omega arith in e))
+          (take_all l.loop-k.k a.rest.now (let e : length a.rest.now ≤ l.loop-k.k = omega arith in e))
           ∙ ap (further q a.runs.now a.column a.best) (ending-all q a.runs.now P a.rest.now),
-      l.loop.invariant.6,
+      l.loop-k.invariant.6,
     )
 
-pub last-columns-spec : {M : Type 1} → statement M
-last-columns-spec =
+pub last_columns_spec : {M : Type 1} → statement M
+last_columns_spec =
     tie.close
     (tie.spec
-    invariant-loop
-    decreases-loop
+    invariant-loop-k
+    decreases-loop-k
     loop-holds
     (λ c. omega arith)
     (λ c. omega arith)
@@ -201,10 +201,10 @@ last-columns-spec =
     part-ratio-start
     (λ c. omega arith)
     ratio-requires
-    (λ c κs. search needs)
-    (λ c κs. ((l c).loop.invariant.5, short c))
+    (λ c κs. search rules)
+    (λ c κs. ((l c).loop-k.invariant.5, short c))
     (λ c. omega (arith, h c.before, few-left (l c.before)))
     (λ c. omega (arith, h c.before))
     loop-again
-    (λ c. ap length c.before.loop.invariant.6)
+    (λ c. ap length c.before.loop-k.invariant.6)
     returns)

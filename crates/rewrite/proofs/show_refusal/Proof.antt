@@ -1,28 +1,28 @@
 -- The line stands in front of its room.
-use Rattle.exact.proofs.Ground.{sym, ◌≤◌, arith, length, length-append, length-take-le, needs}
+use Rattle.exact.proofs.Ground.{sym, ◌≤◌, arith, length, length-append, length-take-le, rules}
 use Rattle.rewrite.proofs.show_refusal.Statement.{statement}
 use Rattle.rewrite.proofs.show_refusal.Tie as tie
 
 -- it is no longer than its room
-fits : (c : tie.After-refusal-line) → c.refusal-line.result ≤ length c.refusal-line.new.1.0
+fits : (c : tie.After-refusal_line-size) → c.refusal_line-size.result ≤ length c.refusal_line-size.new.room
 fits c =
-    let w = c.refusal-line in
+    let w = c.refusal_line-size in
     rw (w.ensures.1, length-append) (omega (arith, w.ensures.0))
 
-array-share-prefix-line : tie.Need-array-share-prefix-line
+array-share-prefix-line : tie.Need-slice_bounds-line-end
 array-share-prefix-line c = fits c.before
 
-slice-aggregate-refuse : tie.Need-slice-aggregate-refuse
+slice-aggregate-refuse : tie.Need-slice_bounds-refuse-end
 slice-aggregate-refuse c =
-    let w = c.before.before in sym (length-take-le w.refusal-line.result w.refusal-line.new.1.0 (fits w))
+    let w = c.before.before in sym (length-take-le w.refusal_line-size.result w.refusal_line-size.new.room (fits w))
 
-pub show-refusal-spec : {M : Type 1} → statement M
-show-refusal-spec =
+pub show_refusal_spec : {M : Type 1} → statement M
+show_refusal_spec =
     tie.close
     (tie.spec
-    (λ c. search needs)
-    (λ c κs. search needs)
+    (λ c. search rules)
+    (λ c κs. search rules)
     array-share-prefix-line
     slice-aggregate-refuse
-    (λ c κs. search needs)
-    (λ c. search needs))
+    (λ c κs. search rules)
+    (λ c. search rules))

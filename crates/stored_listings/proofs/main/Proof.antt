@@ -4,33 +4,33 @@ use native.Mathlib.Omega.{arith}
 use Rattle.stored_listings.proofs.main.Statement.{statement}
 use Rattle.stored_listings.proofs.main.Tie as tie
 
-abbrev invariant-loop : tie.invariant-loop
-invariant-loop n i₀ i = Unit {0}
+abbrev invariant-loop-i : tie.invariant-loop-i
+invariant-loop-i n i₀ i = Unit {0}
 
-abbrev decreases-loop : tie.decreases-loop
-decreases-loop n i₀ i = n - i
+abbrev decreases-loop-i : tie.decreases-loop-i
+decreases-loop-i n i₀ i = n - i
 
-arg-count-requires : tie.Need-arg-count-requires invariant-loop decreases-loop
+arg-count-requires : tie.Need-arg_count-n-requires invariant-loop-i decreases-loop-i
 arg-count-requires c κs = tt
 
-loop-holds : tie.Need-loop-init invariant-loop decreases-loop
+loop-holds : tie.Need-loop-i-init invariant-loop-i decreases-loop-i
 loop-holds c = tt
 
-list-requires : tie.Need-list-requires invariant-loop decreases-loop
+list-requires : tie.Need-list-requires invariant-loop-i decreases-loop-i
 list-requires c κs = tt
 
-loop-again : tie.Need-loop-preserved invariant-loop decreases-loop
+loop-again : tie.Need-loop-i-preserved invariant-loop-i decreases-loop-i
 loop-again c = tt
 
-returns : tie.Need-returns invariant-loop decreases-loop
+returns : tie.Need-returns invariant-loop-i decreases-loop-i
 returns c = tt
 
 pub main_spec : {M : Type 1} → statement M
 main_spec =
     tie.close
     (tie.spec
-    invariant-loop
-    decreases-loop
+    invariant-loop-i
+    decreases-loop-i
     arg-count-requires
     loop-holds
     list-requires

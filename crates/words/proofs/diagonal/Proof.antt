@@ -1,5 +1,5 @@
 -- `words::diagonal` meets its contract: a refusal is that of the levels, and beside none stands the value.
-use Rattle.exact.proofs.Ground.{List, [], ◌∙◌, sym, ap, ℤ, needs}
+use Rattle.exact.proofs.Ground.{List, [], ◌∙◌, sym, ap, ℤ, rules}
 use Rattle.rules.specs.declared.Refusal.{Refusal}
 use Rattle.rules.specs.Plan.{plan}
 use Rattle.plan.proofs.Answers.{answer-refused, answer-accepted}
@@ -13,21 +13,21 @@ use Rattle.words.proofs.diagonal.Tie as tie
 abbrev make : Refusal → List ℤ → DiagonalAnswer
 make r x = record { refused = r; sums = x }
 
-returns : tie.Need-returns
+returns : tie.Need-returns-then-refused-ne0
 unfolding diagonal_answer
 returns c =
-    let k = c.before.before in
-    answer-refused make zeros (diagonal_list (plan k.before.before.args.levels.now [])) (sym k.check-levels.ensures) c.if1.true
+    let k = c in
+    answer-refused make zeros (diagonal_list (plan k.args.levels.now [])) (sym k.check_levels-refused.ensures) c.if-refused-ne0.true
 
-diagonal-requires : tie.Need-diagonal-requires
-diagonal-requires c κs = let k = c.before.before in levels_sound k.before.before.args.levels.now k.check-levels.ensures c.if1.false
+diagonal-requires : tie.Need-diagonal-sums-requires
+diagonal-requires c κs = let k = c in levels_sound k.args.levels.now k.check_levels-refused.ensures c.if-refused-ne0.false
 
-returns-2 : tie.Need-returns-2
+returns-2 : tie.Need-returns
 unfolding diagonal_answer
 returns-2 c =
-    let k = c.before.before.before in
-    ap (make k.check-levels.result) c.diagonal.ensures
-    ∙ answer-accepted make zeros (diagonal_list (plan k.before.before.args.levels.now [])) (sym k.check-levels.ensures) c.before.if1.false
+    let k = c in
+    ap (make k.check_levels-refused.result) c.diagonal-sums.ensures
+    ∙ answer-accepted make zeros (diagonal_list (plan k.args.levels.now [])) (sym k.check_levels-refused.ensures) c.if-refused-ne0.false
 
-pub diagonal-spec : {M : Type 1} → statement M
-diagonal-spec = tie.close (tie.spec (λ c κs. search needs) returns diagonal-requires returns-2)
+pub diagonal_spec : {M : Type 1} → statement M
+diagonal_spec = tie.close (tie.spec (λ c κs. search rules) returns diagonal-requires returns-2)

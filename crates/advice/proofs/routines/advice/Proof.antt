@@ -1,5 +1,5 @@
 -- `routines::advice` meets its contract: the run at the place kept is what the loop over the runs keeps, and the row sums decide as the losses do.
-use Rattle.exact.proofs.Ground.{List, ⊎_elim, ◌≡◌, ◌∙◌, sym, ap, ℕ, ◌≤◌, ◌<◌, ◌-◌, arith, length, get_or, needs}
+use Rattle.exact.proofs.Ground.{List, ⊎_elim, ◌≡◌, ◌∙◌, sym, ap, ℕ, ◌≤◌, ◌<◌, ◌-◌, arith, length, get_or, rules}
 use Rattle.exact.specs.Fractions.{is_better}
 use Rattle.best.specs.Best.{lowest}
 use Rattle.best.proofs.Best.{BestSoFar, so-far-first, so-far-next, so-far-all}
@@ -10,16 +10,16 @@ use Rattle.advice.proofs.RowSums.{length_at, rows-decide}
 use Rattle.advice.proofs.routines.advice.Statement.{statement}
 use Rattle.advice.proofs.routines.advice.Tie as tie
 
-abbrev invariant-loop : tie.invariant-loop
-invariant-loop levels table runs m rows best₀ i₀ i-end best i =
+abbrev invariant-loop-i : tie.invariant-loop-i
+invariant-loop-i levels table runs m rows best₀ i₀ i-end best i =
     (i ≤ length runs) × (best < i) × BestSoFar lowest (loss_order (plan levels table) runs) 0 runs (get_or runs best 0) i
 
-abbrev decreases-loop : tie.decreases-loop
-decreases-loop levels table runs m rows best₀ i₀ i-end best i = length runs - i
+abbrev decreases-loop-i : tie.decreases-loop-i
+decreases-loop-i levels table runs m rows best₀ i₀ i-end best i = length runs - i
 
 -- the plan and the runs given
-module _ (r : tie.After-rows-of-others invariant-loop decreases-loop) where
-  abbrev start : tie.Start invariant-loop decreases-loop
+module _ (r : tie.After-rows_of_others-rows invariant-loop-i decreases-loop-i) where
+  abbrev start : tie.Start invariant-loop-i decreases-loop-i
   start = r.before.before.before.before
 
   abbrev given : Plan
@@ -28,62 +28,62 @@ module _ (r : tie.After-rows-of-others invariant-loop decreases-loop) where
   abbrev standing : List ℕ
   standing = start.args.runs.now
 
-rows-of-others-requires : tie.Need-rows-of-others-requires invariant-loop decreases-loop
-rows-of-others-requires c κs = c.before.before.before.requires.0.sound
+rows-of-others-requires : tie.Need-rows_of_others-rows-requires invariant-loop-i decreases-loop-i
+rows-of-others-requires c κs = c.requires.0.sound
 
-loop-holds : tie.Need-loop-init invariant-loop decreases-loop
+loop-holds : tie.Need-loop-i-init invariant-loop-i decreases-loop-i
 loop-holds c =
     let lawful = losses-lawful (given c) (standing c) (start c).requires.0.rising (start c).requires.1 in
     (omega arith, omega arith, so-far-first lawful lowest 0 (standing c) (λ f m. m) (omega arith))
 
-mul_next : tie.Need-overflow-mul-next invariant-loop decreases-loop
-mul_next c = omega (arith, (start c.before.before).pre.0.sound.few)
+mul_next : tie.Need-offset_bounds-rows-i invariant-loop-i decreases-loop-i
+mul_next c = omega (arith, (start c.before.before).requires.0.sound.few)
 
-array-copy-out-next : tie.Need-array-copy-out-next invariant-loop decreases-loop
-array-copy-out-next c = omega (arith, (start c.before.before).pre.0.sound.few)
+array-copy-out-next : tie.Need-bounds-rows-i invariant-loop-i decreases-loop-i
+array-copy-out-next c = omega (arith, (start c.before.before).requires.0.sound.few)
 
-mul-kept : tie.Need-overflow-mul-kept invariant-loop decreases-loop
-mul-kept c = omega (arith, (start c.before.before.before).pre.0.sound.few)
+mul-kept : tie.Need-offset_bounds-rows-best invariant-loop-i decreases-loop-i
+mul-kept c = omega (arith, (start c.before.before.before).requires.0.sound.few)
 
-array-copy-out-kept : tie.Need-array-copy-out-kept invariant-loop decreases-loop
-array-copy-out-kept c = omega (arith, (start c.before.before.before).pre.0.sound.few)
+array-copy-out-kept : tie.Need-bounds-rows-best invariant-loop-i decreases-loop-i
+array-copy-out-kept c = omega (arith, (start c.before.before.before).requires.0.sound.few)
 
-larger-row-requires : tie.Need-larger-row-requires invariant-loop decreases-loop
+larger-row-requires : tie.Need-larger_row-requires invariant-loop-i decreases-loop-i
 larger-row-requires c κs =
-    let l = c.before.before.before in
-    let r = l.before in
-    let long = length_at (given r) (standing r) (start r).requires.0 r.rows-of-others.ensures in
-    (long l.loop.i (omega arith), (long l.loop.best (omega arith), (start r).requires.0.sound.columns-high))
+    let l = c in
+    let r = l.before.before.before.before in
+    let long = length_at (given r) (standing r) (start r).requires.0 r.rows_of_others-rows.ensures in
+    (long l.loop-i.i (omega arith), (long l.loop-i.best (omega arith), (start r).requires.0.sound.columns-high))
 
 -- the test is that of the two losses
-decided : (k : tie.After-larger-row invariant-loop decreases-loop) →
-    let l = k.before.before.before.before in
-    let r = l.before in
-    k.larger-row.result ≡ is_better (loss_order (given r) (standing r) (get_or (standing r) l.loop.i 0) (get_or (standing r) l.loop.best 0))
+decided : (k : tie.After-larger_row invariant-loop-i decreases-loop-i) →
+    let l = k in
+    let r = l.before.before.before.before.before in
+    k.larger_row.result ≡ is_better (loss_order (given r) (standing r) (get_or (standing r) l.loop-i.i 0) (get_or (standing r) l.loop-i.best 0))
 decided k =
-    let l = k.before.before.before.before in
-    let r = l.before in
-    let decide = rows-decide (given r) (standing r) (start r).requires.0 r.rows-of-others.ensures (start r).requires.1 in
-    k.larger-row.ensures ∙ ap is_better (decide l.loop.i l.loop.best (omega arith) (omega arith))
+    let l = k in
+    let r = l.before.before.before.before.before in
+    let decide = rows-decide (given r) (standing r) (start r).requires.0 r.rows_of_others-rows.ensures (start r).requires.1 in
+    k.larger_row.ensures ∙ ap is_better (decide l.loop-i.i l.loop-i.best (omega arith) (omega arith))
 
-loop-again : tie.Need-loop-preserved invariant-loop decreases-loop
+loop-again : tie.Need-loop-i-preserved invariant-loop-i decreases-loop-i
 loop-again c =
     let k = c.before in
-    let l = k.before.before.before.before in
-    let next = so-far-next l.loop.invariant.2 (omega arith) in
+    let l = k in
+    let next = so-far-next l.loop-i.invariant.2 (omega arith) in
     ⊎_elim (λ w. rw w.1 (omega arith, omega arith, rw (sym (decided k) ∙ w.0.taken) at next))
-    (λ w. rw w.1 (omega arith, omega arith, rw (sym (decided k) ∙ w.0.left) at next)) c.if1.branch
+    (λ w. rw w.1 (omega arith, omega arith, rw (sym (decided k) ∙ w.0.left) at next)) c.if-larger_row.branch
 
-returns : tie.Need-returns invariant-loop decreases-loop
+returns : tie.Need-returns invariant-loop-i decreases-loop-i
 unfolding advice
-returns c = so-far-all c.before.before.loop.invariant.2 (omega arith)
+returns c = so-far-all c.loop-i.invariant.2 (omega arith)
 
-pub advice-spec : {M : Type 1} → statement M
-advice-spec =
+pub advice_spec : {M : Type 1} → statement M
+advice_spec =
     tie.close
     (tie.spec
-    invariant-loop
-    decreases-loop
+    invariant-loop-i
+    decreases-loop-i
     rows-of-others-requires
     loop-holds
     mul_next
@@ -91,9 +91,9 @@ advice-spec =
     mul-kept
     array-copy-out-kept
     larger-row-requires
-    (λ c. search needs)
-    (λ c. search needs)
+    (λ c. search rules)
+    (λ c. search rules)
     loop-again
-    (λ c. search needs)
-    (λ c. search needs)
+    (λ c. search rules)
+    (λ c. search rules)
     returns)

@@ -13,18 +13,18 @@ use Rattle.cells.proofs.Radix.{sumℕ-next, times-bit, stride_most}
 use Rattle.cells.proofs.routines.cell.Statement.{statement}
 use Rattle.cells.proofs.routines.cell.Tie as tie
 
-abbrev invariant-loop : tie.invariant-loop
-invariant-loop strides levels table f g m c₀ i₀ c i =
+abbrev invariant-loop-i : tie.invariant-loop-i
+invariant-loop-i strides levels table f g m c₀ i₀ c i =
     let p = plan levels table in
     (m ≡ length levels) × (i ≤ m) × (m ≤ 24) × (f * m + m ≤ length table) × (g * m + m ≤ length table)
     × (c ≡ sumℕ (from 0 i) (λ x. stride_of p x * bit (agrees p f g x))) × (c ≤ 2560 * i)
 
-abbrev decreases-loop : tie.decreases-loop
-decreases-loop strides levels table f g m c₀ i₀ c i = m - i
+abbrev decreases-loop-i : tie.decreases-loop-i
+decreases-loop-i strides levels table f g m c₀ i₀ c i = m - i
 
-loop-holds : tie.Need-loop-init invariant-loop decreases-loop
+loop-holds : tie.Need-loop-i-init invariant-loop-i decreases-loop-i
 loop-holds c =
-    let s = c.before.before in (
+    let s = c in (
       refl,
       omega arith,
       s.requires.1.0.columns-high,
@@ -34,52 +34,52 @@ loop-holds c =
       omega arith,
     )
 
-mul-c : tie.Need-overflow-mul-c invariant-loop decreases-loop
+mul-c : tie.Need-offset_bounds-strides-i invariant-loop-i decreases-loop-i
 mul-c c = omega arith
 
-element-copy-out-c : tie.Need-element-copy-out-c invariant-loop decreases-loop
+element-copy-out-c : tie.Need-bounds-strides-i invariant-loop-i decreases-loop-i
 element-copy-out-c c = omega arith
 
-mul-same : tie.Need-overflow-mul-same invariant-loop decreases-loop
+mul-same : tie.Need-overflow_mul-f invariant-loop-i decreases-loop-i
 mul-same c = omega arith
 
-add_same : tie.Need-overflow-add-same invariant-loop decreases-loop
+add_same : tie.Need-overflow_add-f invariant-loop-i decreases-loop-i
 add_same c = omega arith
 
-shared-slice-read-same : tie.Need-shared-slice-read-same invariant-loop decreases-loop
+shared-slice-read-same : tie.Need-bounds-table-f invariant-loop-i decreases-loop-i
 shared-slice-read-same c = omega arith
 
-mul-same-2 : tie.Need-overflow-mul-same-2 invariant-loop decreases-loop
+mul-same-2 : tie.Need-overflow_mul-g invariant-loop-i decreases-loop-i
 mul-same-2 c = omega arith
 
-add-same-2 : tie.Need-overflow-add-same-2 invariant-loop decreases-loop
+add-same-2 : tie.Need-overflow_add-g invariant-loop-i decreases-loop-i
 add-same-2 c = omega arith
 
-shared-slice-read-same-2 : tie.Need-shared-slice-read-same-2 invariant-loop decreases-loop
+shared-slice-read-same-2 : tie.Need-bounds-table-g invariant-loop-i decreases-loop-i
 shared-slice-read-same-2 c = omega arith
 
-same-requires : tie.Need-same-requires invariant-loop decreases-loop
+same-requires : tie.Need-same-requires invariant-loop-i decreases-loop-i
 same-requires c κs = search rules
 
 -- what a turn adds
-module _ (c : tie.After-same invariant-loop decreases-loop) where
-  abbrev at : tie.At-loop invariant-loop decreases-loop
-  at = c.before.before.before.before.before
+module _ (c : tie.After-same invariant-loop-i decreases-loop-i) where
+  abbrev at : tie.At-loop-i invariant-loop-i decreases-loop-i
+  at = c.before.before.before.before.before.before
 
-  abbrev start : tie.Start invariant-loop decreases-loop
+  abbrev start : tie.Start invariant-loop-i decreases-loop-i
   start = at.before.before.before
 
   abbrev given : Plan
   given = plan start.args.levels.now start.args.table.now
 
   abbrev i : ℕ
-  i = at.loop.i
+  i = at.loop-i.i
 
   abbrev weight : ℕ → ℕ
   weight x = stride_of given x * bit (agrees given start.args.f start.args.g x)
 
   adds : i < columns given → get_or start.args.strides.now i 0 * c.same.result ≡ weight i
-  adds h = ap₂ (λ a b. a * b) (start.pre.0.at i h) c.same.ensures
+  adds h = ap₂ (λ a b. a * b) (start.requires.0.at i h) c.same.ensures
 
   few : weight i ≤ 2560
   few =
@@ -89,43 +89,43 @@ module _ (c : tie.After-same invariant-loop decreases-loop) where
         stride_most (level given) (every_column given) (level given i),
       )
 
-mul-c-2 : tie.Need-overflow-mul-c-2 invariant-loop decreases-loop
+mul-c-2 : tie.Need-overflow_mul-c invariant-loop-i decreases-loop-i
 mul-c-2 c = omega (arith, adds c (omega arith), few c)
 
-add-c : tie.Need-overflow-add-c invariant-loop decreases-loop
+add-c : tie.Need-overflow_add-c invariant-loop-i decreases-loop-i
 add-c c = omega (arith, adds c (omega arith), few c)
 
-add-i : tie.Need-overflow-add-i invariant-loop decreases-loop
+add-i : tie.Need-overflow_step-i invariant-loop-i decreases-loop-i
 add-i c = omega arith
 
-loop-less : tie.Need-loop-smaller invariant-loop decreases-loop
+loop-less : tie.Need-loop-i-smaller invariant-loop-i decreases-loop-i
 loop-less c = omega arith
 
-loop-again : tie.Need-loop-preserved invariant-loop decreases-loop
+loop-again : tie.Need-loop-i-preserved invariant-loop-i decreases-loop-i
 loop-again c =
     let l = at c in let e = adds c (omega arith) in (
       refl,
       omega arith,
-      l.loop.inv.2,
-      l.loop.inv.3,
-      l.loop.inv.4,
-      ap₂ (λ a b. a + b) l.loop.inv.5 e ∙ sym (sumℕ-next (weight c) (i c)),
-      omega (arith, few c, l.loop.inv.6),
+      l.loop-i.invariant.2,
+      l.loop-i.invariant.3,
+      l.loop-i.invariant.4,
+      ap₂ (λ a b. a + b) l.loop-i.invariant.5 e ∙ sym (sumℕ-next (weight c) (i c)),
+      omega (arith, few c, l.loop-i.invariant.6),
     )
 
-returns : tie.Need-returns invariant-loop decreases-loop
+returns : tie.Need-returns invariant-loop-i decreases-loop-i
 unfolding cell_of cell
 returns c =
-    let l = c.before in let s = l.before.before.before in let p = plan s.args.levels.now s.args.table.now in
-    let e : l.loop.i ≡ columns p = omega arith in
-    l.loop.invariant.5 ∙ ap (λ n. sumℕ (from 0 n) (λ x. stride_of p x * bit (agrees p s.args.f s.args.g x))) e
+    let l = c in let s = l in let p = plan s.args.levels.now s.args.table.now in
+    let e : l.loop-i.i ≡ columns p = omega arith in
+    l.loop-i.invariant.5 ∙ ap (λ n. sumℕ (from 0 n) (λ x. stride_of p x * bit (agrees p s.args.f s.args.g x))) e
 
-pub cell-spec : {M : Type 1} → statement M
-cell-spec =
+pub cell_spec : {M : Type 1} → statement M
+cell_spec =
     tie.close
     (tie.spec
-    invariant-loop
-    decreases-loop
+    invariant-loop-i
+    decreases-loop-i
     loop-holds
     mul-c
     element-copy-out-c

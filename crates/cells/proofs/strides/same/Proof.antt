@@ -6,11 +6,11 @@ use Rattle.cells.specs.Cells.{bit}
 use Rattle.cells.proofs.strides.same.Statement.{statement}
 use Rattle.cells.proofs.strides.same.Tie as tie
 
-returns : tie.Need-returns
-returns c = let a = c.before.args in sym (ap bit (eq-eqb a.a a.b (search rules)))
+returns : tie.Need-returns-then-a-b
+returns c = let a = c.args in sym (ap bit (eq-eqb a.a a.b (search rules)))
 
-returns-2 : tie.Need-returns-2
-returns-2 c = let a = c.before.args in sym (ap bit (ne_eqb a.a a.b (search rules)))
+returns-2 : tie.Need-returns-else-a-b
+returns-2 c = let a = c.args in sym (ap bit (ne_eqb a.a a.b (search rules)))
 
 pub same_spec : {M : Type 1} → statement M
 same_spec = tie.close (tie.spec returns returns-2)

@@ -16,55 +16,55 @@ use Rattle.cells.proofs.Radix.{stride-none, stride-next, stride_most}
 use Rattle.cells.proofs.strides.stride_of.Statement.{statement}
 use Rattle.cells.proofs.strides.stride_of.Tie as tie
 
-abbrev invariant-loop : tie.invariant-loop
-invariant-loop levels l t₀ s₀ t s = let p = plan levels [] in (s ≤ l) × (t ≡ stride (level p) (every_column p) s)
+abbrev invariant-loop-s : tie.invariant-loop-s
+invariant-loop-s levels l t₀ s₀ t s = let p = plan levels [] in (s ≤ l) × (t ≡ stride (level p) (every_column p) s)
 
-abbrev decreases-loop : tie.decreases-loop
-decreases-loop levels l t₀ s₀ t s = l - s
+abbrev decreases-loop-s : tie.decreases-loop-s
+decreases-loop-s levels l t₀ s₀ t s = l - s
 
-loop-holds : tie.Need-loop-init invariant-loop decreases-loop
-loop-holds c = let p = plan c.before.args.levels.now [] in (omega arith, sym (stride-none (level p) (every_column p)))
+loop-holds : tie.Need-loop-s-init invariant-loop-s decreases-loop-s
+loop-holds c = let p = plan c.args.levels.now [] in (omega arith, sym (stride-none (level p) (every_column p)))
 
-members-of-requires : tie.Need-members-of-requires invariant-loop decreases-loop
-members-of-requires c κs = c.before.before.before.requires
+members-of-requires : tie.Need-members_of-requires invariant-loop-s decreases-loop-s
+members-of-requires c κs = c.requires
 
 few : (p : Plan) (s : ℕ) → columns p ≤ 24 → members (level p) (every_column p) s ≤ 24
 unfolding members
 few p s h = omega (arith, count_most (λ i. eqb s (level p i)) (every_column p), length_from 0 (columns p))
 
-next-stride-requires : tie.Need-next-stride-requires invariant-loop decreases-loop
+next-stride-requires : tie.Need-next_stride-t-requires invariant-loop-s decreases-loop-s
 next-stride-requires c κs =
-    let l = c.before.before in let s = l.before.before in let p = plan s.args.levels.now [] in
-    (omega (arith, l.loop.invariant.1, stride_most (level p) (every_column p) l.loop.s), rw c.members-of.ensures (few p l.loop.s s.requires))
+    let l = c in let s = l in let p = plan s.args.levels.now [] in
+    (omega (arith, l.loop-s.invariant.1, stride_most (level p) (every_column p) l.loop-s.s), rw c.members_of.ensures (few p l.loop-s.s s.requires))
 
-add-s : tie.Need-overflow-add-s invariant-loop decreases-loop
+add-s : tie.Need-overflow_step-s invariant-loop-s decreases-loop-s
 add-s c = omega arith
 
-loop-less : tie.Need-loop-smaller invariant-loop decreases-loop
+loop-less : tie.Need-loop-s-smaller invariant-loop-s decreases-loop-s
 loop-less c = omega arith
 
-loop-again : tie.Need-loop-preserved invariant-loop decreases-loop
+loop-again : tie.Need-loop-s-preserved invariant-loop-s decreases-loop-s
 loop-again c =
-    let l = c.before.before.before in let s = l.before.before in let p = plan s.args.levels.now [] in (
+    let l = c in let s = l in let p = plan s.args.levels.now [] in (
       omega arith,
-      c.next-stride.ensures
-          ∙ ap₂ (λ t m. min window (t * (m + 1))) l.loop.invariant.1 c.before.members-of.ensures
-          ∙ sym (stride-next (level p) (every_column p) l.loop.s)
-          ∙ ap (stride (level p) (every_column p)) (sym (add-one l.loop.s)),
+      c.next_stride-t.ensures
+          ∙ ap₂ (λ t m. min window (t * (m + 1))) l.loop-s.invariant.1 c.members_of.ensures
+          ∙ sym (stride-next (level p) (every_column p) l.loop-s.s)
+          ∙ ap (stride (level p) (every_column p)) (sym (add-one l.loop-s.s)),
     )
 
-returns : tie.Need-returns invariant-loop decreases-loop
+returns : tie.Need-returns invariant-loop-s decreases-loop-s
 returns c =
-    let l = c.before in let s = l.before.before in let p = plan s.args.levels.now [] in
-    let e : l.loop.s ≡ s.args.l = omega arith in
-    l.loop.invariant.1 ∙ ap (stride (level p) (every_column p)) e
+    let l = c in let s = l in let p = plan s.args.levels.now [] in
+    let e : l.loop-s.s ≡ s.args.l = omega arith in
+    l.loop-s.invariant.1 ∙ ap (stride (level p) (every_column p)) e
 
-pub stride-of-spec : {M : Type 1} → statement M
-stride-of-spec =
+pub stride_of_spec : {M : Type 1} → statement M
+stride_of_spec =
     tie.close
     (tie.spec
-    invariant-loop
-    decreases-loop
+    invariant-loop-s
+    decreases-loop-s
     loop-holds
     members-of-requires
     next-stride-requires

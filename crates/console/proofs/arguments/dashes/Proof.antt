@@ -3,36 +3,36 @@ use Rattle.exact.proofs.Ground.{◌-◌, arith}
 use Rattle.console.proofs.arguments.dashes.Statement.{statement}
 use Rattle.console.proofs.arguments.dashes.Tie as tie
 
-abbrev invariant-loop : tie.invariant-loop
-invariant-loop arguments k₀ k = Unit {0}
+abbrev invariant-loop-k : tie.invariant-loop-k
+invariant-loop-k arguments k₀ k = Unit {0}
 
-abbrev decreases-loop : tie.decreases-loop
-decreases-loop arguments k₀ k = arguments - k
+abbrev decreases-loop-k : tie.decreases-loop-k
+decreases-loop-k arguments k₀ k = arguments - k
 
-arg-count-requires : tie.Need-arg-count-requires invariant-loop decreases-loop
+arg-count-requires : tie.Need-arg_count-arguments-requires invariant-loop-k decreases-loop-k
 arg-count-requires c κs = tt
 
-loop-holds : tie.Need-loop-init invariant-loop decreases-loop
+loop-holds : tie.Need-loop-k-init invariant-loop-k decreases-loop-k
 loop-holds c = tt
 
-is-dashes-requires : tie.Need-is-dashes-requires invariant-loop decreases-loop
+is-dashes-requires : tie.Need-is_dashes-requires invariant-loop-k decreases-loop-k
 is-dashes-requires c κs = tt
 
-returns : tie.Need-returns invariant-loop decreases-loop
+returns : tie.Need-returns-then-is_dashes invariant-loop-k decreases-loop-k
 returns c = tt
 
-loop-again : tie.Need-loop-preserved invariant-loop decreases-loop
+loop-again : tie.Need-loop-k-preserved invariant-loop-k decreases-loop-k
 loop-again c = tt
 
-returns-2 : tie.Need-returns-2 invariant-loop decreases-loop
+returns-2 : tie.Need-returns invariant-loop-k decreases-loop-k
 returns-2 c = tt
 
-pub dashes-spec : {M : Type 1} → statement M
-dashes-spec =
+pub dashes_spec : {M : Type 1} → statement M
+dashes_spec =
     tie.close
     (tie.spec
-    invariant-loop
-    decreases-loop
+    invariant-loop-k
+    decreases-loop-k
     arg-count-requires
     loop-holds
     is-dashes-requires

@@ -6,18 +6,18 @@ use Rattle.console.proofs.LinesEnd.{line-found}
 use Rattle.console.proofs.lines.line_after.Statement.{statement}
 use Rattle.console.proofs.lines.line_after.Tie as tie
 
-slice-aggregate-result : tie.Need-slice-aggregate-result
-slice-aggregate-result c = sym (length-take-le _ _ c.before.lines-end2.ensures.1)
+slice-aggregate-result : tie.Need-slice_bounds-result-end
+slice-aggregate-result c = sym (length-take-le _ _ c.lines_end-size.ensures.1)
 
 returns : tie.Need-returns
 returns c =
-    let s = c.before.before.before in
-    let a = s.before.before.args in
-    let e = s.lines-end.ensures in
-    line-found a.text.now a.above s.lines-end.result c.before.lines-end2.result e.1 e.0 c.before.lines-end2.ensures.0
+    let s = c in
+    let a = s.args in
+    let e = s.lines_end-start.ensures in
+    line-found a.text.now a.above s.lines_end-start.result c.lines_end-size.result e.1 e.0 c.lines_end-size.ensures.0
 
-pub line-after-spec : {M : Type 1} → statement M
-line-after-spec =
+pub line_after_spec : {M : Type 1} → statement M
+line_after_spec =
     tie.close
     (tie.spec
     (λ c κs. search rules)

@@ -14,14 +14,14 @@ make r t = record { refused = r; strength = t }
 abbrev found : tie.Start → ℕ
 found s = let a = s.args in let p = plan a.levels.now a.table.now in strength (level p) (entry p) a.runs.now (every_column p)
 
-returns : tie.Need-returns
-returns c = answer-refused make 0 (found c.before.before.before.before.before) refl c.if1.true
+returns : tie.Need-returns-then-refused-ne0
+returns c = answer-refused make 0 (found c.before.before.before.before.before) refl c.if-refused-ne0.true
 
 strength-requires : tie.Need-strength-requires
-strength-requires c κs = c.before.before.before.before.before.requires c.if1.false
+strength-requires c κs = c.requires c.if-refused-ne0.false
 
-returns-2 : tie.Need-returns-2
-returns-2 c = rw c.strength.ensures (answer-accepted make 0 (found c.before.before.before.before.before.before) refl c.before.if1.false)
+returns-2 : tie.Need-returns
+returns-2 c = rw c.strength.ensures (answer-accepted make 0 (found c.before.before.before.before.before.before) refl c.if-refused-ne0.false)
 
-pub strength-answer-spec : {M : Type 1} → statement M
-strength-answer-spec = tie.close (tie.spec returns strength-requires returns-2)
+pub strength_answer_spec : {M : Type 1} → statement M
+strength_answer_spec = tie.close (tie.spec returns strength-requires returns-2)

@@ -1,41 +1,41 @@
 -- `fractions::smaller_fraction` meets its contract: fractions compare as their quotients do, and where these are equal as what is left does.
-use Rattle.exact.proofs.Ground.{◌∙◌, needs}
+use Rattle.exact.proofs.Ground.{◌∙◌, rules}
 use Rattle.exact.proofs.Verdicts.{rest-fits, quotients-differ, quotients_equal}
 use Rattle.exact.proofs.fractions.smaller_fraction.Statement.{statement}
 use Rattle.exact.proofs.fractions.smaller_fraction.Tie as tie
 
-returns : tie.Need-returns
+returns : tie.Need-returns-then-left-right
 returns c =
-    let start = c.before.before.before.before in
-    c.smaller.ensures ∙ quotients-differ start.args.x start.args.y start.pre.0 start.pre.1 c.before.if1.taken
+    let start = c in
+    c.smaller.ensures ∙ quotients-differ start.args.x start.args.y start.requires.0 start.requires.1 c.if-left-right.true
 
-mul-smaller : tie.Need-mul-smaller
+mul-smaller : tie.Need-overflow_mul-x
 mul-smaller c =
-    let start = c.before.before.before.before.before in
-    record { fits = rest-fits start.args.x start.args.y start.pre.0 start.pre.1 }
+    let start = c in
+    record { fits = rest-fits start.args.x start.args.y start.requires.0 start.requires.1 }
 
-mul-smaller-2 : tie.Need-mul-smaller-2
+mul-smaller-2 : tie.Need-overflow_mul-y
 mul-smaller-2 c =
-    let start = c.before.before.before.before.before.before.before in
-    record { fits = rest-fits start.args.y start.args.x start.pre.1 start.pre.0 }
+    let start = c in
+    record { fits = rest-fits start.args.y start.args.x start.requires.1 start.requires.0 }
 
-returns-2 : tie.Need-returns-2
+returns-2 : tie.Need-returns
 returns-2 c =
-    let tested = c.before.before.before.before.before in
-    let start = tested.before.before.before in
-    c.smaller2.ensures ∙ quotients_equal start.args.x start.args.y start.pre.0 start.pre.1 tested.if1.left
+    let tested = c in
+    let start = tested in
+    c.smaller-2.ensures ∙ quotients_equal start.args.x start.args.y start.requires.0 start.requires.1 tested.if-left-right.false
 
-pub smaller-fraction-spec : {M : Type 1} → statement M
-smaller-fraction-spec =
+pub smaller_fraction_spec : {M : Type 1} → statement M
+smaller_fraction_spec =
     tie.close
     (tie.spec
-    (λ c. search needs)
-    (λ c. search needs)
-    (λ c κs. search needs)
+    (λ c. search rules)
+    (λ c. search rules)
+    (λ c κs. search rules)
     returns
-    (λ c. search needs)
+    (λ c. search rules)
     mul-smaller
-    (λ c. search needs)
+    (λ c. search rules)
     mul-smaller-2
-    (λ c κs. search needs)
+    (λ c κs. search rules)
     returns-2)

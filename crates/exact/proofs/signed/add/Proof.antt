@@ -4,7 +4,7 @@ use Rattle.exact.proofs.Bits.{operation-fits, operation-is}
 use Rattle.exact.proofs.signed.add.Statement.{statement}
 use Rattle.exact.proofs.signed.add.Tie as tie
 
-add-result : tie.Need-overflow-add-result
+add-result : tie.Need-overflow_add-result
 add-result c = operation-fits ◌+ℤ◌ c.ranges.a c.ranges.b c.requires
 
 returns : tie.Need-returns

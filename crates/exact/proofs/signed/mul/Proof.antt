@@ -4,11 +4,11 @@ use Rattle.exact.proofs.Bits.{operation-fits, operation-is}
 use Rattle.exact.proofs.signed.mul.Statement.{statement}
 use Rattle.exact.proofs.signed.mul.Tie as tie
 
-mul-result : tie.Need-overflow-mul-result
+mul-result : tie.Need-overflow_mul-result
 mul-result c = operation-fits ◌*ℤ◌ c.ranges.a c.ranges.b c.requires
 
 returns : tie.Need-returns
 returns c = operation-is ◌*ℤ◌ c.ranges.a c.ranges.b c.requires
 
-pub mul-spec : {M : Type 1} → statement M
-mul-spec = tie.close (tie.spec mul-result returns)
+pub mul_spec : {M : Type 1} → statement M
+mul_spec = tie.close (tie.spec mul-result returns)

@@ -1,5 +1,5 @@
 -- `signed::of_byte` meets its contract: the bits of a byte stand for that number.
-use Rattle.exact.proofs.Ground.{arith, needs}
+use Rattle.exact.proofs.Ground.{arith, rules}
 use Rattle.exact.proofs.Bits.{nat-back}
 use Rattle.exact.proofs.signed.of_byte.Statement.{statement}
 use Rattle.exact.proofs.signed.of_byte.Tie as tie
@@ -7,5 +7,5 @@ use Rattle.exact.proofs.signed.of_byte.Tie as tie
 returns : tie.Need-returns
 returns c = nat-back c.args.x (omega arith)
 
-pub of-byte-spec : {M : Type 1} → statement M
-of-byte-spec = tie.close (tie.spec (λ c. search needs) returns)
+pub of_byte_spec : {M : Type 1} → statement M
+of_byte_spec = tie.close (tie.spec (λ c. search rules) returns)

@@ -1,5 +1,5 @@
 -- `signed::of_u64` meets its contract: the bits of a number below 2 ^ 63 stand for that number.
-use Rattle.exact.proofs.Ground.{arith, needs}
+use Rattle.exact.proofs.Ground.{arith, rules}
 use Rattle.exact.proofs.Bits.{nat-back}
 use Rattle.exact.proofs.signed.of_u64.Statement.{statement}
 use Rattle.exact.proofs.signed.of_u64.Tie as tie
@@ -7,5 +7,5 @@ use Rattle.exact.proofs.signed.of_u64.Tie as tie
 returns : tie.Need-returns
 returns c = nat-back c.args.x (omega arith)
 
-pub of-u64-spec : {M : Type 1} → statement M
-of-u64-spec = tie.close (tie.spec (λ c. search needs) returns)
+pub of_u64_spec : {M : Type 1} → statement M
+of_u64_spec = tie.close (tie.spec (λ c. search rules) returns)

@@ -4,7 +4,7 @@ use Rattle.exact.proofs.Bits.{operation-fits, operation-is}
 use Rattle.exact.proofs.signed.sub.Statement.{statement}
 use Rattle.exact.proofs.signed.sub.Tie as tie
 
-sub-result : tie.Need-overflow-sub-result
+sub-result : tie.Need-overflow_sub-result
 sub-result c = operation-fits ◌-ℤ◌ c.ranges.a c.ranges.b c.requires
 
 returns : tie.Need-returns

@@ -3,11 +3,11 @@ use Rattle.exact.proofs.Bits.{unsigned-fits, unsigned_is}
 use Rattle.exact.proofs.signed.to_u64.Statement.{statement}
 use Rattle.exact.proofs.signed.to_u64.Tie as tie
 
-cast-result : tie.Need-overflow-cast-result
+cast-result : tie.Need-overflow_cast-result
 cast-result c = unsigned-fits c.ranges.x c.requires
 
 returns : tie.Need-returns
 returns c = unsigned_is c.ranges.x c.requires
 
-pub to-u64-spec : {M : Type 1} → statement M
-to-u64-spec = tie.close (tie.spec cast-result returns)
+pub to_u64_spec : {M : Type 1} → statement M
+to_u64_spec = tie.close (tie.spec cast-result returns)

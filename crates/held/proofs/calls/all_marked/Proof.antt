@@ -1,26 +1,26 @@
 -- `held::calls::all_marked` meets its contract: the marks of the first f runs are set.
 use Rattle.exact.proofs.Ground.{true, false, ◌≡◌, ◌∙◌, sym, ap, refl, ◌≤◌, ◌<◌, ◌-◌, arith, length, replicate, set, length-set, length-replicate}
-use Rattle.exact.proofs.Ground.{needs}
+use Rattle.exact.proofs.Ground.{rules}
 use lib.ListN.{get_or-replicate}
 use Rattle.exact.proofs.Rooms.{copied, copy-next, copy-all, into-blank}
 use Rattle.rules.specs.Plan.{most_runs}
 use Rattle.held.proofs.calls.all_marked.Statement.{statement}
 use Rattle.held.proofs.calls.all_marked.Tie as tie
 
-abbrev invariant-loop : tie.invariant-loop
-invariant-loop n marks₀ f₀ marks f =
+abbrev invariant-loop-f : tie.invariant-loop-f
+invariant-loop-f n marks₀ f₀ marks f =
     (f ≤ n) × (n ≤ most_runs) × (length marks ≡ most_runs) × (marks ≡ copied (replicate n true) (replicate most_runs false) f)
 
-abbrev decreases-loop : tie.decreases-loop
-decreases-loop n marks₀ f₀ marks f = n - f
+abbrev decreases-loop-f : tie.decreases-loop-f
+decreases-loop-f n marks₀ f₀ marks f = n - f
 
-loop-holds : tie.Need-loop-init invariant-loop decreases-loop
-loop-holds c = (omega arith, c.requires, search needs, refl)
+loop-holds : tie.Need-loop-f-init invariant-loop-f decreases-loop-f
+loop-holds c = (omega arith, c.requires, search rules, refl)
 
-loop-again : tie.Need-loop-preserved invariant-loop decreases-loop
+loop-again : tie.Need-loop-f-preserved invariant-loop-f decreases-loop-f
 loop-again c =
-    let l = c.before.loop in
-    let n = c.before.before.args.n in
+    let l = c.loop-f in
+    let n = c.args.n in
     let xs = replicate n true in
     let h : l.f < length xs = rw (length-replicate n true) (omega arith) in
     let room : l.f < length (replicate most_runs false) = rw (length-replicate most_runs false) (omega arith) in (
@@ -31,13 +31,13 @@ loop-again c =
           ∙ copy-next xs (replicate most_runs false) l.f false h room),
     )
 
-returns : tie.Need-returns invariant-loop decreases-loop
+returns : tie.Need-returns invariant-loop-f decreases-loop-f
 returns c =
-    let l = c.before.loop in
-    let xs = replicate c.before.before.args.n true in
-    l.invariant.3 ∙ copy-all xs (replicate most_runs false) l.f (omega (arith, length-replicate c.before.before.args.n true)) ∙ into-blank xs most_runs false
+    let l = c.loop-f in
+    let xs = replicate c.args.n true in
+    l.invariant.3 ∙ copy-all xs (replicate most_runs false) l.f (omega (arith, length-replicate c.args.n true)) ∙ into-blank xs most_runs false
 
-pub all-marked-spec : {M : Type 1} → statement M
-all-marked-spec =
+pub all_marked_spec : {M : Type 1} → statement M
+all_marked_spec =
     tie.close
-    (tie.spec invariant-loop decreases-loop loop-holds (λ c. omega arith) (λ c. omega arith) (λ c. omega arith) loop-again returns)
+    (tie.spec invariant-loop-f decreases-loop-f loop-holds (λ c. omega arith) (λ c. omega arith) (λ c. omega arith) loop-again returns)

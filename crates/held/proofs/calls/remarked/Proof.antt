@@ -1,44 +1,44 @@
 -- `held::calls::remarked` meets its contract: the words changed by one row sum are those of the runs that then stand.
-use Rattle.exact.proofs.Ground.{arith, needs}
+use Rattle.exact.proofs.Ground.{arith, rules}
 use Rattle.held.specs.Held.{remarked}
 use Rattle.held.proofs.Sizes.{sized}
 use Rattle.held.proofs.Lent.{factor-is, change-small, changed-held}
 use Rattle.held.proofs.calls.remarked.Statement.{statement}
 use Rattle.held.proofs.calls.remarked.Tie as tie
 
-changed-words-requires : tie.Need-changed-words-requires
+changed-words-requires : tie.Need-changed_words-changed-requires
 changed-words-requires c κs =
-    let s = c.before.before.before.before.before.before.before.before in
-    let d = c.before.before.before.before in
-    rw (c.before.before.factor.ensures, factor-is s.args.stands, d.before.before.row_of.ensures, d.diagonal-of.ensures)
+    let s = c in
+    let d = c in
+    rw (c.factor.ensures, factor-is s.args.stands, d.row_of-row.ensures, d.diagonal_of-diagonal.ensures)
     (change-small s.requires)
 
-element-write-next : tie.Need-element-write-next
+element-write-next : tie.Need-bounds-next-run
 element-write-next c =
-    let C = c.before.before.before.before.before.before.before.before.before.requires in
+    let C = c.requires in
     omega (arith, C.there, (sized C.held).runs-high)
 
 returns : tie.Need-returns
 unfolding remarked
 returns c =
-    let s = c.before.before.before.before.before.before.before.before.before in
-    let d = c.before.before.before.before.before in
+    let s = c in
+    let d = c in
     rw (
-      c.changed-words.ensures,
-      c.before.before.before.factor.ensures,
+      c.changed_words-changed.ensures,
+      c.factor.ensures,
       factor-is s.args.stands,
-      d.before.before.row_of.ensures,
-      d.diagonal-of.ensures,
+      d.row_of-row.ensures,
+      d.diagonal_of-diagonal.ensures,
       changed-held s.requires,
     )
 
-pub remarked-spec : {M : Type 1} → statement M
-remarked-spec =
+pub remarked_spec : {M : Type 1} → statement M
+remarked_spec =
     tie.close
     (tie.spec
-    (λ c κs. search needs)
-    (λ c κs. search needs)
-    (λ c κs. search needs)
+    (λ c κs. search rules)
+    (λ c κs. search rules)
+    (λ c κs. search rules)
     changed-words-requires
     element-write-next
     returns)

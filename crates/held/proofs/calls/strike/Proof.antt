@@ -1,5 +1,5 @@
 -- `held::calls::strike` meets its contract: each branch is one of the definition, by the fields of the held plan.
-use Rattle.exact.proofs.Ground.{arith, needs}
+use Rattle.exact.proofs.Ground.{arith, rules}
 use Rattle.held.specs.Held.{strikes}
 use Rattle.held.proofs.Sizes.{sized}
 use Rattle.held.proofs.Lent.{count-is}
@@ -7,46 +7,46 @@ use Rattle.held.proofs.Branches.{outside-refused, struck-refused, last-refused, 
 use Rattle.held.proofs.calls.strike.Statement.{statement}
 use Rattle.held.proofs.calls.strike.Tie as tie
 
-returns : tie.Need-returns
+returns : tie.Need-returns-then-runs-run
 returns c =
-    let s = c.before.before.before in
-    rw c.plain.ensures (outside-refused s.requires (strikes s.args.run) c.before.if1.true)
+    let s = c in
+    rw c.plain-refused.ensures (outside-refused s.requires (strikes s.args.run) c.if-runs-run.true)
 
-array-read-if2 : tie.Need-array-read-if2
-array-read-if2 c = omega (arith, (sized c.before.before.requires).runs-high)
+array-read-if2 : tie.Need-bounds-marks-run
+array-read-if2 c = omega (arith, (sized c.requires).runs-high)
 
-returns-2 : tie.Need-returns-2
+returns-2 : tie.Need-returns-then-standing-lt2
 returns-2 c =
-    let k = c.before.before.before in
-    let s = k.before.before.before.before in
-    let few = rw (count-is s.requires k.standing-runs.ensures) at c.before.if3.true in
-    rw c.plain2.ensures (last-refused s.requires s.args.run k.before.before.if1.false k.before.if2.true few)
+    let k = c in
+    let s = k in
+    let few = rw (count-is s.requires k.standing_runs-standing.ensures) at c.if-standing-lt2.true in
+    rw c.plain-refused-then-standing-lt2.ensures (last-refused s.requires s.args.run k.if-runs-run.false k.if-marks-run.true few)
 
-returns-3 : tie.Need-returns-3
+returns-3 : tie.Need-returns-then-marks-run
 returns-3 c =
-    let k = c.before.before.before.before in
-    let s = k.before.before.before.before in
-    let many = rw (count-is s.requires k.standing-runs.ensures) at c.before.before.if3.false in
-    rw (c.before.accepted.ensures, c.remarked.ensures)
-    (strike-accepted s.requires s.args.run k.before.before.if1.false k.before.if2.true many)
+    let k = c in
+    let s = k in
+    let many = rw (count-is s.requires k.standing_runs-standing.ensures) at c.if-standing-lt2.false in
+    rw (c.accepted-refused.ensures, c.remarked-next.ensures)
+    (strike-accepted s.requires s.args.run k.if-runs-run.false k.if-marks-run.true many)
 
-returns-4 : tie.Need-returns-4
+returns-4 : tie.Need-returns
 returns-4 c =
-    let s = c.before.before.before.before in
-    rw c.plain3.ensures (struck-refused s.requires s.args.run c.before.before.if1.false c.before.if2.false)
+    let s = c in
+    rw c.plain-refused-2.ensures (struck-refused s.requires s.args.run c.if-runs-run.false c.if-marks-run.false)
 
-pub strike-spec : {M : Type 1} → statement M
-strike-spec =
+pub strike_spec : {M : Type 1} → statement M
+strike_spec =
     tie.close
     (tie.spec
-    (λ c κs. search needs)
+    (λ c κs. search rules)
     returns
     array-read-if2
-    (λ c κs. search needs)
-    (λ c κs. search needs)
+    (λ c κs. search rules)
+    (λ c κs. search rules)
     returns-2
-    (λ c κs. search needs)
-    (λ c κs. search needs)
+    (λ c κs. search rules)
+    (λ c κs. search rules)
     returns-3
-    (λ c κs. search needs)
+    (λ c κs. search rules)
     returns-4)

@@ -2,11 +2,11 @@
 use Rattle.held.proofs.routines.factor.Statement.{statement}
 use Rattle.held.proofs.routines.factor.Tie as tie
 
-returns : tie.Need-returns
-returns c = rw c.if1.true
+returns : tie.Need-returns-then-stands
+returns c = rw c.if-stands.true
 
-returns-2 : tie.Need-returns-2
-returns-2 c = rw c.if1.false
+returns-2 : tie.Need-returns-else-stands
+returns-2 c = rw c.if-stands.false
 
-pub factor-spec : {M : Type 1} → statement M
-factor-spec = tie.close (tie.spec returns returns-2)
+pub factor_spec : {M : Type 1} → statement M
+factor_spec = tie.close (tie.spec returns returns-2)

@@ -1,5 +1,5 @@
 -- `held::routines::standing_runs` meets its contract: before mark f the room holds the runs that stand among the first f.
-use Rattle.exact.proofs.Ground.{false, ⊎_elim, ◌≡◌, ◌∙◌, ◌≤◌, ◌<◌, ◌-◌, arith, length, get_or, take, length-set, length-take-le, get_or-take, needs}
+use Rattle.exact.proofs.Ground.{false, ⊎_elim, ◌≡◌, ◌∙◌, ◌≤◌, ◌<◌, ◌-◌, arith, length, get_or, take, length-set, length-take-le, get_or-take, rules}
 use Rattle.rules.specs.Plan.{most_runs}
 use Rattle.held.specs.Held.{marks_in}
 use Rattle.held.proofs.Sizes.{sized}
@@ -7,23 +7,23 @@ use Rattle.held.proofs.Walk.{Walked, walk_begins, walk-stands, walk-struck, walk
 use Rattle.held.proofs.routines.standing_runs.Statement.{statement}
 use Rattle.held.proofs.routines.standing_runs.Tie as tie
 
-abbrev invariant-loop : tie.invariant-loop
-invariant-loop n marks runs₀ count₀ f₀ runs count f =
+abbrev invariant-loop-f : tie.invariant-loop-f
+invariant-loop-f n marks runs₀ count₀ f₀ runs count f =
     (f ≤ n) × (n ≤ most_runs) × (length (take n marks) ≡ n) × (length runs ≡ most_runs) × (count ≤ f) × Walked (take n marks) f runs count
 
-abbrev decreases-loop : tie.decreases-loop
-decreases-loop n marks runs₀ count₀ f₀ runs count f = n - f
+abbrev decreases-loop-f : tie.decreases-loop-f
+decreases-loop-f n marks runs₀ count₀ f₀ runs count f = n - f
 
-loop-holds : tie.Need-loop-init invariant-loop decreases-loop
+loop-holds : tie.Need-loop-f-init invariant-loop-f decreases-loop-f
 loop-holds c =
-    let small = (sized c.before.requires).runs-high in
-    let room : length c.before.args.held.marks ≡ most_runs = search needs in
-    (omega arith, small, length-take-le _ _ (omega arith), search needs, omega arith, walk_begins (marks_in c.before.args.held))
+    let small = (sized c.requires).runs-high in
+    let room : length c.args.held.marks ≡ most_runs = search rules in
+    (omega arith, small, length-take-le _ _ (omega arith), search rules, omega arith, walk_begins (marks_in c.args.held))
 
-loop-again : tie.Need-loop-preserved invariant-loop decreases-loop
+loop-again : tie.Need-loop-f-preserved invariant-loop-f decreases-loop-f
 loop-again c =
-    let l = c.before.before.loop in
-    let h = c.before.before.before.before.args.held in
+    let l = c.loop-f in
+    let h = c.args.held in
     let fits : length (marks_in h) ≤ most_runs = omega arith in
     let below : l.f < length (marks_in h) = omega arith in
     let read : get_or (marks_in h) l.f false ≡ get_or h.marks l.f false = get_or-take h.runs h.marks l.f false (omega arith) in
@@ -44,19 +44,19 @@ loop-again c =
       omega arith,
       rw (w.1, w.2) (walk-struck (marks_in h) fits l.f below l.invariant.5 (read ∙ w.0.left)),
     ))
-    c.if1.branch
+    c.if-marks-f.branch
 
-returns : tie.Need-returns invariant-loop decreases-loop
+returns : tie.Need-returns invariant-loop-f decreases-loop-f
 returns c =
-    let l = c.before.before.loop in
-    rw c.too_few.ensures (walk_ends (marks_in c.before.before.before.before.args.held) l.f (omega arith) l.invariant.5)
+    let l = c.loop-f in
+    rw c.too_few-refused.ensures (walk_ends (marks_in c.args.held) l.f (omega arith) l.invariant.5)
 
-pub standing-runs-spec : {M : Type 1} → statement M
-standing-runs-spec =
+pub standing_runs_spec : {M : Type 1} → statement M
+standing_runs_spec =
     tie.close
     (tie.spec
-    invariant-loop
-    decreases-loop
+    invariant-loop-f
+    decreases-loop-f
     loop-holds
     (λ c. omega arith)
     (λ c. omega arith)
@@ -65,5 +65,5 @@ standing-runs-spec =
     (λ c. omega arith)
     (λ c. omega arith)
     loop-again
-    (λ c κs. search needs)
+    (λ c κs. search rules)
     returns)

@@ -1,5 +1,5 @@
 -- `held_questions::questions::word` meets its contract: the word is read from those held, where the length is one of theirs.
-use Rattle.exact.proofs.Ground.{[], ◌∷◌, ◌≡◌, ◌∙◌, sym, ap, ℕ, ◌≤◌, arith, pos, ℤ, needs}
+use Rattle.exact.proofs.Ground.{[], ◌∷◌, ◌≡◌, ◌∙◌, sym, ap, ℕ, ◌≤◌, arith, pos, ℤ, rules}
 use Rattle.rules.specs.declared.Refusal.{Refusal}
 use Rattle.rules.specs.Plan.{columns, level, entry, every_column}
 use Rattle.rules.specs.Refusals.{refusal, or_else, bad_length}
@@ -21,7 +21,7 @@ abbrev make : Refusal → ℤ → WordAnswer
 make r x = record { refused = r; word = x }
 
 -- the plan, the length, its word, and the refusal of both
-module _ (k : tie.After-or-else) where
+module _ (k : tie.After-or_else-refused) where
   abbrev start : tie.Start
   start = k.before.before.before.before.before
 
@@ -34,50 +34,50 @@ module _ (k : tie.After-or-else) where
   abbrev W : ℤ
   W = word (level (plan_in h)) (entry (plan_in h)) (standing_in h) (every_column (plan_in h)) j
 
-  whole : k.or_else.result ≡ refusal (of_standing h (bad_length (columns (plan_in h)) j ∷ []))
+  whole : k.or_else-refused.result ≡ refusal (of_standing h (bad_length (columns (plan_in h)) j ∷ []))
   whole =
-      k.or_else.ensures
-      ∙ ap (or_else k.before.before.before.standing-runs.result.refused) k.before.check-length.ensures
-      ∙ ap (λ m. or_else k.before.before.before.standing-runs.result.refused (refusal (bad_length m j ∷ []))) (sym (columns-in start.pre))
-      ∙ held-handed start.pre k.before.before.before.standing-runs.ensures (bad_length (columns (plan_in h)) j ∷ [])
+      k.or_else-refused.ensures
+      ∙ ap (or_else k.standing_runs-standing.result.refused) k.check_length.ensures
+      ∙ ap (λ m. or_else k.standing_runs-standing.result.refused (refusal (bad_length m j ∷ []))) (sym (columns-in start.requires))
+      ∙ held-handed start.requires k.standing_runs-standing.ensures (bad_length (columns (plan_in h)) j ∷ [])
 
-  inside : k.or_else.result.number ≡ 0 → (1 ≤ j) × (j ≤ h.columns)
+  inside : k.or_else-refused.result.number ≡ 0 → (1 ≤ j) × (j ≤ h.columns)
   inside z =
-      length-passed h.columns j k.before.check-length.ensures
-      (or-neither k.before.before.before.standing-runs.result.refused k.before.check-length.result (ap (λ r. r.number) (sym k.or_else.ensures) ∙ z)).1
+      length-passed h.columns j k.check_length.ensures
+      (or-neither k.standing_runs-standing.result.refused k.check_length.result (ap (λ r. r.number) (sym k.or_else-refused.ensures) ∙ z)).1
 
-returns : tie.Need-returns
+returns : tie.Need-returns-then-refused-ne0
 unfolding held_word word_answer
 returns c =
-    let k = c.before.before in ap (λ a. record { held = h k; answer = a }) (answer-refused make (pos 0) (W k) (sym (whole k)) c.if1.true)
+    let k = c.before.before in ap (λ a. record { held = h k; answer = a }) (answer-refused make (pos 0) (W k) (sym (whole k)) c.if-refused-ne0.true)
 
-sub_word : tie.Need-overflow-sub-word
-sub_word c = omega (arith, (inside c.before.before c.if1.false).0)
+sub_word : tie.Need-overflow_sub-word
+sub_word c = omega (arith, (inside c.before.before c.if-refused-ne0.false).0)
 
-mul-word : tie.Need-overflow-mul-word
+mul-word : tie.Need-offset_bounds-words-length
 mul-word c =
-    let k = c.before.before in omega (arith, inside k c.if1.false, (sized (start k).requires).columns-high)
+    let k = c.before.before in omega (arith, inside k c.if-refused-ne0.false, (sized (start k).requires).columns-high)
 
-array-copy-out-word : tie.Need-array-copy-out-word
+array-copy-out-word : tie.Need-bounds-words-length
 array-copy-out-word c =
-    let k = c.before.before in omega (arith, inside k c.if1.false, (sized (start k).requires).columns-high)
+    let k = c.before.before in omega (arith, inside k c.if-refused-ne0.false, (sized (start k).requires).columns-high)
 
-returns-2 : tie.Need-returns-2
+returns-2 : tie.Need-returns
 unfolding held_word word_answer
 returns-2 c =
     let k = c.before.before.before in
-    let z = c.before.if1.false in
+    let z = c.if-refused-ne0.false in
     let i = inside k z in
-    ap (λ x. record { held = h k; answer = make k.or_else.result x }) (word_read (start k).requires (j k) i.0 i.1)
+    ap (λ x. record { held = h k; answer = make k.or_else-refused.result x }) (word_read (start k).requires (j k) i.0 i.1)
     ∙ ap (λ a. record { held = h k; answer = a }) (answer-accepted make (pos 0) (W k) (sym (whole k)) z)
 
-pub word-spec : {M : Type 1} → statement M
-word-spec =
+pub word_spec : {M : Type 1} → statement M
+word_spec =
     tie.close
     (tie.spec
-    (λ c κs. search needs)
-    (λ c κs. search needs)
-    (λ c κs. search needs)
+    (λ c κs. search rules)
+    (λ c κs. search rules)
+    (λ c κs. search rules)
     returns
     sub_word
     mul-word

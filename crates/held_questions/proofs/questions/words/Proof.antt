@@ -2,15 +2,15 @@
 use Rattle.words.specs.Answers.{words_answer}
 use Rattle.held.proofs.Lent.{held-refusal, words-beside}
 use Rattle.held_questions.specs.Answers.{held_words}
-use Rattle.exact.proofs.Ground.{needs}
+use Rattle.exact.proofs.Ground.{rules}
 use Rattle.held_questions.proofs.questions.words.Statement.{statement}
 use Rattle.held_questions.proofs.questions.words.Tie as tie
 
 returns : tie.Need-returns
 unfolding held_words words_answer
 returns c =
-    let H = c.before.before.before.requires in
-    rw (held-refusal H c.before.standing-runs.ensures, words-beside H)
+    let H = c.requires in
+    rw (held-refusal H c.standing_runs-standing.ensures, words-beside H)
 
-pub words-spec : {M : Type 1} → statement M
-words-spec = tie.close (tie.spec (λ c κs. search needs) returns)
+pub words_spec : {M : Type 1} → statement M
+words_spec = tie.close (tie.spec (λ c κs. search rules) returns)

@@ -1,5 +1,5 @@
 -- `held_questions::tables::frequencies` meets its contract: the table is that of the standing runs.
-use Rattle.exact.proofs.Ground.{needs}
+use Rattle.exact.proofs.Ground.{rules}
 use Rattle.projection_tables.specs.Tables.{Rooms, rooms, table_checks, table_answer, table_rooms}
 use Rattle.held.specs.Held.{plan_in, standing_in}
 use Rattle.held_questions.specs.Answers.{held_table}
@@ -8,36 +8,36 @@ use Rattle.held.proofs.Lent.{levels-lent, entries-lent, size_fits, runs-lent, le
 use Rattle.held_questions.proofs.tables.frequencies.Statement.{statement}
 use Rattle.held_questions.proofs.tables.frequencies.Tie as tie
 
-mul-size : tie.Need-overflow-mul-size
-mul-size c = record { fits = size_fits c.before.before.before.before.requires }
+mul-size : tie.Need-overflow_mul-size
+mul-size c = record { fits = size_fits c.requires }
 
 -- what the function is given, from the standing runs
-abbrev start : tie.After-standing-runs → tie.Start
+abbrev start : tie.After-standing_runs-standing → tie.Start
 start k = k.before.before.before.before.before.before.before.before
 
-array-share-prefix-levels : tie.Need-array-share-prefix-levels
-array-share-prefix-levels c = levels-lent (start c.before).requires
+array-share-prefix-levels : tie.Need-slice_bounds-levels-end
+array-share-prefix-levels c = levels-lent (start c.before.before).requires
 
-slice-aggregate-table-answer : tie.Need-slice-aggregate-table-answer
-slice-aggregate-table-answer c = front _ (levels-lent (start c.before.before).requires)
+slice-aggregate-table-answer : tie.Need-slice_bounds-table_answer-end
+slice-aggregate-table-answer c = front _ (levels-lent (start c.before.before.before).requires)
 
-array-share-prefix-entries : tie.Need-array-share-prefix-entries
-array-share-prefix-entries c = entries-lent (start c.before.before).requires
+array-share-prefix-entries : tie.Need-slice_bounds-entries-end
+array-share-prefix-entries c = entries-lent (start c.before.before.before).requires
 
-slice-aggregate-table-answer-2 : tie.Need-slice-aggregate-table-answer-2
-slice-aggregate-table-answer-2 c = front _ (entries-lent (start c.before.before.before).requires)
+slice-aggregate-table-answer-2 : tie.Need-slice_bounds-table_answer-end-2
+slice-aggregate-table-answer-2 c = front _ (entries-lent (start c.before.before.before.before).requires)
 
-array-share-prefix-runs : tie.Need-array-share-prefix-runs
-array-share-prefix-runs c = let k = c.before.before.before in runs-lent (start k).requires k.standing-runs.ensures
+array-share-prefix-runs : tie.Need-slice_bounds-runs-end
+array-share-prefix-runs c = let k = c.before.before.before.before in runs-lent (start k).requires k.standing_runs-standing.ensures
 
-slice-aggregate-table-answer-3 : tie.Need-slice-aggregate-table-answer-3
-slice-aggregate-table-answer-3 c = let k = c.before.before.before.before in front _ (runs-lent (start k).requires k.standing-runs.ensures)
+slice-aggregate-table-answer-3 : tie.Need-slice_bounds-table_answer-end-3
+slice-aggregate-table-answer-3 c = let k = c.before.before.before.before.before in front _ (runs-lent (start k).requires k.standing_runs-standing.ensures)
 
-table-answer-requires : tie.Need-table-answer-requires
+table-answer-requires : tie.Need-table_answer-answer-requires
 table-answer-requires c κs z =
-    let k = c.before.before.before.before.before.before.before.before in
+    let k = c.before.before.before.before.before.before.before.before.before in
     let H = (start k).requires in
-    let e = k.standing-runs.ensures in
+    let e = k.standing_runs-standing.ensures in
     record {
       tabled = record { sound = lent-sound H e; some = lent-some H e z };
       of-runs = λ _. rw (lent_runs H e) (words-standing H);
@@ -46,21 +46,21 @@ table-answer-requires c κs z =
 returns : tie.Need-returns
 unfolding held_table table_answer table_rooms
 returns c =
-    let t = c.before.before.before.before.before.before in
-    let k = t.before.before.before.before.before.before.before.before.before in
+    let t = c in
+    let k = t.before.before.before.before.before.before.before.before.before.before.before.before.before.before.before.before in
     let H = (start k).requires in
     let a = (start k).args in
-    let e = k.standing-runs.ensures in
+    let e = k.standing_runs-standing.ensures in
     let lent : Rooms = rooms a.nums.now a.dens.now a.counts.now in
     let q = held-handed H e (table_checks (plan_in a.held) (standing_in a.held) a.relative a.f lent) in
-    (rw (t.table-answer.ensures.0, lent_runs H e, q), rw (t.table-answer.ensures.1, lent_runs H e, q))
+    (rw (t.table_answer-answer.ensures.0, lent_runs H e, q), rw (t.table_answer-answer.ensures.1, lent_runs H e, q))
 
-pub frequencies-spec : {M : Type 1} → statement M
-frequencies-spec =
+pub frequencies_spec : {M : Type 1} → statement M
+frequencies_spec =
     tie.close
     (tie.spec
     mul-size
-    (λ c κs. search needs)
+    (λ c κs. search rules)
     array-share-prefix-levels
     slice-aggregate-table-answer
     array-share-prefix-entries
@@ -68,7 +68,7 @@ frequencies-spec =
     array-share-prefix-runs
     slice-aggregate-table-answer-3
     table-answer-requires
-    (λ c. search needs)
-    (λ c. search needs)
-    (λ c. search needs)
+    (λ c. search rules)
+    (λ c. search rules)
+    (λ c. search rules)
     returns)

@@ -17,23 +17,23 @@ use Rattle.pairs.proofs.routines.add_later.Tie as tie
 abbrev later : Plan → ℕ → List ℕ
 later p f = drop (f + 1) (every_run p)
 
-abbrev invariant-loop : tie.invariant-loop
-invariant-loop total₀ levels table f n g₀ total g =
+abbrev invariant-loop-g : tie.invariant-loop-g
+invariant-loop-g total₀ levels table f n g₀ total g =
     let p = plan levels table in
     (f < g) × (g ≤ runs p) × (total ≡ added total₀ (totals (of_pair p f) (take (g - (f + 1)) (later p f))))
 
-abbrev decreases-loop : tie.decreases-loop
-decreases-loop total₀ levels table f n g₀ total g = n - g
+abbrev decreases-loop-g : tie.decreases-loop-g
+decreases-loop-g total₀ levels table f n g₀ total g = n - g
 
-div-n : tie.Need-nonzero-div-n invariant-loop decreases-loop
-div-n c = omega (arith, c.before.before.requires.1.0.columns-low)
+div-n : tie.Need-nonzero_div-n invariant-loop-g decreases-loop-g
+div-n c = omega (arith, c.requires.1.0.columns-low)
 
-add-g : tie.Need-overflow-add-g invariant-loop decreases-loop
-add-g c = let s = c.before.before in omega (arith, s.requires.1.1, s.requires.1.0.runs-high)
+add-g : tie.Need-overflow_step-g invariant-loop-g decreases-loop-g
+add-g c = let s = c in omega (arith, s.requires.1.1, s.requires.1.0.runs-high)
 
-loop-holds : tie.Need-loop-init invariant-loop decreases-loop
+loop-holds : tie.Need-loop-g-init invariant-loop-g decreases-loop-g
 loop-holds c =
-    let s = c.before.before in let total = s.args.total.now in let p = plan s.args.levels.now s.args.table.now in
+    let s = c in let total = s.args.total.now in let p = plan s.args.levels.now s.args.table.now in
     let none : s.args.f + 1 - (s.args.f + 1) ≡ 0 = omega arith in (
       omega arith,
       omega (arith, s.requires.1.1),
@@ -42,8 +42,8 @@ loop-holds c =
     )
 
 -- the plan, what each later run adds by its pair with run f, and the bounds
-module _ (l : tie.At-loop invariant-loop decreases-loop) where
-  abbrev start : tie.Start invariant-loop decreases-loop
+module _ (l : tie.At-loop-g invariant-loop-g decreases-loop-g) where
+  abbrev start : tie.Start invariant-loop-g decreases-loop-g
   start = l.before.before.before
 
   abbrev given : Plan
@@ -56,68 +56,68 @@ module _ (l : tie.At-loop invariant-loop decreases-loop) where
   adds = of_pair given f
 
   sound : (g : ℕ) → g < runs given → Sound given (g ∷ [])
-  sound g h = sound-run given (every_run given) (good-sound given start.pre.1.0) g (run-mem given g h)
+  sound g h = sound-run given (every_run given) (good-sound given start.requires.1.0) g (run-mem given g h)
 
   small : (g : ℕ) → g < runs given → (j : ℕ) → nat_abs (adds j g) ≤ highest_product
-  small g h = pair_small given f g (sound f start.pre.1.1) (sound g h)
+  small g h = pair_small given f g (sound f start.requires.1.1) (sound g h)
 
   many : length (later given f) ≡ runs given - (f + 1)
   many = length-drop (f + 1) (every_run given) ∙ ap (λ n. n - (f + 1)) (length_from 0 (runs given))
 
   -- how many of them are passed, and the next
   abbrev passed : ℕ
-  passed = l.loop.g - (f + 1)
+  passed = l.loop-g.g - (f + 1)
 
-  next : l.loop.g < runs given → get_or (later given f) passed 0 ≡ l.loop.g
+  next : l.loop-g.g < runs given → get_or (later given f) passed 0 ≡ l.loop-g.g
   next h =
-      let e : f + 1 + passed ≡ l.loop.g = omega (arith, l.loop.inv.0) in
-      get_or-drop (f + 1) (every_run given) passed 0 ∙ ap (λ k. get_or (every_run given) k 0) e ∙ run_at given l.loop.g h
+      let e : f + 1 + passed ≡ l.loop-g.g = omega (arith, l.loop-g.invariant.0) in
+      get_or-drop (f + 1) (every_run given) passed 0 ∙ ap (λ k. get_or (every_run given) k 0) e ∙ run_at given l.loop-g.g h
 
-pair-requires : tie.Need-pair-requires invariant-loop decreases-loop
-pair-requires c κs = let l = c.before in (sound l (f l) (start l).requires.1.1, sound l l.loop.g (omega arith))
+pair-requires : tie.Need-pair-sums-requires invariant-loop-g decreases-loop-g
+pair-requires c κs = let l = c.before in (sound l (f l) (start l).requires.1.1, sound l l.loop-g.g (omega arith))
 
-add-to-requires : tie.Need-add-to-requires invariant-loop decreases-loop
+add-to-requires : tie.Need-add_to-requires invariant-loop-g decreases-loop-g
 add-to-requires c κs =
-    let d = c.before.before.before in let l = d.before.before in let s = start l in
-    let few : length (later (given l) (f l)) ≤ most_runs = omega (arith, many l, s.pre.1.0.runs-high) in
+    let d = c in let l = d.before.before.before.before in let s = start l in
+    let few : length (later (given l) (f l)) ≤ most_runs = omega (arith, many l, s.requires.1.0.runs-high) in
     let so_far = totals-row (adds l) (later (given l) (f l)) (passed l) highest_product (2 ^ 60) few (omega arith)
     (λ g m. small l g (mem-run (given l) g (mem-drop (f l + 1) (every_run (given l)) g m))) in (
-      rw l.loop.invariant.2 (added-row s.args.total.now (totals (adds l) (take (passed l) (later (given l) (f l)))) (2 ^ 60) (2 ^ 60) s.pre.0 so_far),
-      rw d.pair.ensures (pair-part (given l) (f l) l.loop.g 24 s.pre.1.0.columns-high (sound l (f l) s.pre.1.1)
-          (sound l l.loop.g (omega arith))),
+      rw l.loop-g.invariant.2 (added-row s.args.total.now (totals (adds l) (take (passed l) (later (given l) (f l)))) (2 ^ 60) (2 ^ 60) s.requires.0 so_far),
+      rw d.pair-sums.ensures (pair-part (given l) (f l) l.loop-g.g 24 s.requires.1.0.columns-high (sound l (f l) s.requires.1.1)
+          (sound l l.loop-g.g (omega arith))),
     )
 
-loop-again : tie.Need-loop-preserved invariant-loop decreases-loop
+loop-again : tie.Need-loop-g-preserved invariant-loop-g decreases-loop-g
 loop-again c =
-    let d = c.before.before.before.before in let l = d.before.before in
+    let d = c in let l = d.before.before.before.before.before in
     let total = (start l).args.total.now in let runs-later = later (given l) (f l) in
     let so_far = added total (totals (adds l) (take (passed l) runs-later)) in
-    let h : l.loop.g < runs (given l) = omega arith in
-    let more : passed l + 1 ≡ l.loop.g + 1 - (f l + 1) = omega (arith, l.loop.invariant.0) in (
-      omega (arith, l.loop.invariant.0),
+    let h : l.loop-g.g < runs (given l) = omega arith in
+    let more : passed l + 1 ≡ l.loop-g.g + 1 - (f l + 1) = omega (arith, l.loop-g.invariant.0) in (
+      omega (arith, l.loop-g.invariant.0),
       omega arith,
-      c.add-to.ensures
-          ∙ ap₂ (λ row sums. added row (take 24 (drop 1 sums))) l.loop.invariant.2 d.pair.ensures
-          ∙ pair-added (given l) (f l) l.loop.g 24 (start l).requires.1.0.columns-high so_far
+      c.add_to.ensures
+          ∙ ap₂ (λ row sums. added row (take 24 (drop 1 sums))) l.loop-g.invariant.2 d.pair-sums.ensures
+          ∙ pair-added (given l) (f l) l.loop-g.g 24 (start l).requires.1.0.columns-high so_far
           ∙ ap (λ g. added so_far (by_length (λ j. adds l j g))) (sym (next l h))
           ∙ added-assoc total (totals (adds l) (take (passed l) runs-later)) (by_length (λ j. adds l j (get_or runs-later (passed l) 0)))
-          ∙ ap (added total) (totals-next (adds l) runs-later (passed l) 0 (omega (arith, many l, l.loop.invariant.0)))
+          ∙ ap (added total) (totals-next (adds l) runs-later (passed l) 0 (omega (arith, many l, l.loop-g.invariant.0)))
           ∙ ap (λ k. added total (totals (adds l) (take k runs-later))) more,
     )
 
-returns : tie.Need-returns invariant-loop decreases-loop
+returns : tie.Need-returns invariant-loop-g decreases-loop-g
 returns c =
     let l = c.before in let total = (start l).args.total.now in
-    l.loop.invariant.2
+    l.loop-g.invariant.2
     ∙ ap (λ qs. added total (totals (adds l) qs)) (take_all (passed l) (later (given l) (f l)) (omega (arith, many l)))
     ∙ ap (added total) (row-totals (given l) (later (given l) (f l)) (f l))
 
-pub add-later-spec : {M : Type 1} → statement M
-add-later-spec =
+pub add_later_spec : {M : Type 1} → statement M
+add_later_spec =
     tie.close
     (tie.spec
-    invariant-loop
-    decreases-loop
+    invariant-loop-g
+    decreases-loop-g
     div-n
     add-g
     loop-holds

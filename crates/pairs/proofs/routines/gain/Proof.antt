@@ -1,5 +1,5 @@
 -- `pairs::routines::gain` meets its contract: the two sums and the score are small, so that they are read as they stand, and the new sum fits.
-use Rattle.exact.proofs.Ground.{◌≡◌, ◌∙◌, ◌≤◌, ◌+◌, ◌*◌, arith, pos, ℤ, nat_abs, ◌*ℤ◌, get_or, needs, w64, to_z, of_z}
+use Rattle.exact.proofs.Ground.{◌≡◌, ◌∙◌, ◌≤◌, ◌+◌, ◌*◌, arith, pos, ℤ, nat_abs, ◌*ℤ◌, get_or, rules, w64, to_z, of_z}
 use Rattle.exact.proofs.Bits.{fits, back, of}
 use Rattle.exact.proofs.Numbers.{mul-below}
 use Rattle.exact.proofs.Order.{nat_abs-+, nat_abs-*}
@@ -14,23 +14,23 @@ module _ (s : tie.Start) where
   less = get_or s.args.sums.now s.args.k (pos 0)
 
   sum-read : to_z w64 (of_z w64 sum) ≡ sum
-  sum-read = back (fits sum (omega (arith, s.pre.sum)))
+  sum-read = back (fits sum (omega (arith, s.requires.sum)))
 
   less-read : to_z w64 (of_z w64 less) ≡ less
-  less-read = back (fits less (omega (arith, s.pre.less)))
+  less-read = back (fits less (omega (arith, s.requires.less)))
 
   product_small : nat_abs (s.args.score *ℤ less) ≤ 16 * 2_000_000_000
   product_small =
       let x = s.args.score in
-      rw (nat_abs-* x less) (mul-below (nat_abs x) (nat_abs less) 16 2_000_000_000 s.pre.score s.pre.less)
+      rw (nat_abs-* x less) (mul-below (nat_abs x) (nat_abs less) 16 2_000_000_000 s.requires.score s.requires.less)
 
 mul-requires : tie.Need-mul-requires
 mul-requires c κs = let s = c.before.before in rw (back s.ranges.score, less-read s) (omega (arith, product_small s))
 
-product : (c : tie.After-mul) → to_z w64 (of_z w64 c.mul.result) ≡ c.before.before.before.args.score *ℤ less c.before.before.before
+product : (c : tie.After-mul) → to_z w64 (of_z w64 c.mul.result) ≡ c.args.score *ℤ less c.before.before.before
 product c =
     let s = c.before.before.before in
-    of c.mul.result c.mul.type-inv ∙ c.mul.ensures ∙ rw (back s.ranges.score, less-read s)
+    of c.mul.result c.mul.type_inv ∙ c.mul.ensures ∙ rw (back s.ranges.score, less-read s)
 
 add-requires : tie.Need-add-requires
 add-requires c κs =
@@ -40,20 +40,20 @@ add-requires c κs =
 returns : tie.Need-returns
 returns c =
     let d = c.before in
-    rw (of c.add.result c.add.type-inv, c.add.ensures, sum-read d.before.before.before, product d)
+    rw (of c.add.result c.add.type_inv, c.add.ensures, sum-read d.before.before.before, product d)
 
-pub gain-spec : {M : Type 1} → statement M
-gain-spec =
+pub gain_spec : {M : Type 1} → statement M
+gain_spec =
     tie.close
     (tie.spec
-    (λ c. search needs)
-    (λ c. search needs)
-    (λ c. search needs)
-    (λ c. search needs)
-    (λ c. search needs)
+    (λ c. search rules)
+    (λ c. search rules)
+    (λ c. search rules)
+    (λ c. search rules)
+    (λ c. search rules)
     mul-requires
     add-requires
-    (λ c. search needs)
-    (λ c. search needs)
-    (λ c. search needs)
+    (λ c. search rules)
+    (λ c. search rules)
+    (λ c. search rules)
     returns)

@@ -10,19 +10,19 @@ use Rattle.pairs.proofs.OfPlan.{of_pair, row-totals, sound-run, pair_small, pair
 use Rattle.pairs.proofs.routines.row.Statement.{statement}
 use Rattle.pairs.proofs.routines.row.Tie as tie
 
-abbrev invariant-loop : tie.invariant-loop
-invariant-loop levels table runs f total₀ k₀ k-end total k =
+abbrev invariant-loop-k : tie.invariant-loop-k
+invariant-loop-k levels table runs f total₀ k₀ k-end total k =
     (k-end ≡ length runs) × (k ≤ k-end) × (total ≡ totals (of_pair (plan levels table) f) (take k runs))
 
-abbrev decreases-loop : tie.decreases-loop
-decreases-loop levels table runs f total₀ k₀ k-end total k = k-end - k
+abbrev decreases-loop-k : tie.decreases-loop-k
+decreases-loop-k levels table runs f total₀ k₀ k-end total k = k-end - k
 
-loop-holds : tie.Need-loop-init invariant-loop decreases-loop
+loop-holds : tie.Need-loop-k-init invariant-loop-k decreases-loop-k
 loop-holds c = (refl, omega arith, sym (totals-none _))
 
 -- the plan, what each run adds to the row of run f, and a turn's run
-module _ (l : tie.At-loop invariant-loop decreases-loop) where
-  abbrev start : tie.Start invariant-loop decreases-loop
+module _ (l : tie.At-loop-k invariant-loop-k decreases-loop-k) where
+  abbrev start : tie.Start invariant-loop-k decreases-loop-k
   start = l.before.before.before.before
 
   abbrev given : Plan
@@ -35,49 +35,49 @@ module _ (l : tie.At-loop invariant-loop decreases-loop) where
   runs = start.args.runs.now
 
   abbrev run : ℕ
-  run = get_or runs l.loop.k 0
+  run = get_or runs l.loop-k.k 0
 
   sound : (g : ℕ) → Memᴰ g runs → Sound given (g ∷ [])
-  sound = sound-run given runs start.pre.0
+  sound = sound-run given runs start.requires.0
 
   small : (g : ℕ) → Memᴰ g runs → (j : ℕ) → nat_abs (adds j g) ≤ highest_product
-  small g m = pair_small given start.args.f g start.pre.1 (sound g m)
+  small g m = pair_small given start.args.f g start.requires.1 (sound g m)
 
-pair-requires : tie.Need-pair-requires invariant-loop decreases-loop
+pair-requires : tie.Need-pair-sums-requires invariant-loop-k decreases-loop-k
 pair-requires c κs =
     let l = c.before.before in
-    ((start l).requires.1, sound l (run l) (get_or-mem (runs l) l.loop.k 0 (omega arith)))
+    ((start l).requires.1, sound l (run l) (get_or-mem (runs l) l.loop-k.k 0 (omega arith)))
 
-add-to-requires : tie.Need-add-to-requires invariant-loop decreases-loop
+add-to-requires : tie.Need-add_to-requires invariant-loop-k decreases-loop-k
 add-to-requires c κs =
-    let d = c.before.before.before in let l = d.before.before.before in (
-      rw l.loop.invariant.2 (totals-row (adds l) (runs l) l.loop.k highest_product (2 ^ 61) (start l).requires.0.few (omega arith) (small l)),
-      rw d.pair.ensures (pair-part (given l) (start l).args.f (run l) 24 (start l).requires.1.columns-high (start l).requires.1
-          (sound l (run l) (get_or-mem (runs l) l.loop.k 0 (omega arith)))),
+    let d = c in let l = d.before.before.before.before.before in (
+      rw l.loop-k.invariant.2 (totals-row (adds l) (runs l) l.loop-k.k highest_product (2 ^ 61) (start l).requires.0.few (omega arith) (small l)),
+      rw d.pair-sums.ensures (pair-part (given l) (start l).args.f (run l) 24 (start l).requires.1.columns-high (start l).requires.1
+          (sound l (run l) (get_or-mem (runs l) l.loop-k.k 0 (omega arith)))),
     )
 
-loop-again : tie.Need-loop-preserved invariant-loop decreases-loop
+loop-again : tie.Need-loop-k-preserved invariant-loop-k decreases-loop-k
 loop-again c =
-    let d = c.before.before.before.before in let l = d.before.before.before in (
+    let d = c in let l = d.before.before.before.before.before.before in (
       refl,
       omega arith,
-      c.add-to.ensures ∙ ap₂ (λ row r. added row (take 24 (drop 1 r))) l.loop.invariant.2 d.pair.ensures
+      c.add_to.ensures ∙ ap₂ (λ row r. added row (take 24 (drop 1 r))) l.loop-k.invariant.2 d.pair-sums.ensures
           ∙ pair-added (given l) (start l).args.f (run l) 24 (start l).requires.1.columns-high _
-          ∙ totals-next (adds l) (runs l) l.loop.k 0 (omega arith),
+          ∙ totals-next (adds l) (runs l) l.loop-k.k 0 (omega arith),
     )
 
-returns : tie.Need-returns invariant-loop decreases-loop
+returns : tie.Need-returns invariant-loop-k decreases-loop-k
 returns c =
     let l = c.before in
-    let e : l.loop.k ≡ length (runs l) = omega arith in
-    l.loop.invariant.2 ∙ ap (totals (adds l)) (ap (λ k. take k (runs l)) e ∙ take-length (runs l)) ∙ row-totals (given l) (runs l) (start l).args.f
+    let e : l.loop-k.k ≡ length (runs l) = omega arith in
+    l.loop-k.invariant.2 ∙ ap (totals (adds l)) (ap (λ k. take k (runs l)) e ∙ take-length (runs l)) ∙ row-totals (given l) (runs l) (start l).args.f
 
-pub row-spec : {M : Type 1} → statement M
-row-spec =
+pub row_spec : {M : Type 1} → statement M
+row_spec =
     tie.close
     (tie.spec
-    invariant-loop
-    decreases-loop
+    invariant-loop-k
+    decreases-loop-k
     loop-holds
     (λ c. omega arith)
     (λ c. omega arith)

@@ -1,5 +1,5 @@
 -- `part_sums::counters::count_one` meets its contract: the counter of that number is one higher.
-use Rattle.exact.proofs.Ground.{◌≤◌, ◌<◌, arith, length, get_or, needs}
+use Rattle.exact.proofs.Ground.{◌≤◌, ◌<◌, arith, length, get_or, rules}
 use Rattle.exact.proofs.Members.{get_or-mem}
 use Rattle.rules.specs.Plan.{most_runs}
 use Rattle.part_sums.proofs.Counting.{tally-turn, tally-small}
@@ -14,24 +14,24 @@ module _ (s : tie.Start) where
   counter : get_or s.args.counters.now (get_or s.args.numbers.now s.args.k 0) 0 ≤ most_runs
   counter =
       let a = s.args in
-      omega (arith, s.pre.0.0.few, tally-small (length a.counters.now) a.numbers.now a.k a.counters.now s.pre.1 s.pre.0.1 small)
+      omega (arith, s.requires.0.0.few, tally-small (length a.counters.now) a.numbers.now a.k a.counters.now s.requires.1 s.requires.0.1 small)
 
-cast-number : tie.Need-overflow-cast-number
-cast-number c = omega (arith, c.shared-slice-known.given c.before.args.k)
+cast-number : tie.Need-overflow_cast-number
+cast-number c = omega (arith, c.shared_slice_known-1.given c.args.k)
 
-mul-counters : tie.Need-overflow-mul-counters
-mul-counters c = omega (arith, c.shared-slice-known.given c.before.args.k)
+mul-counters : tie.Need-offset_bounds-counters-number
+mul-counters c = omega (arith, c.shared_slice_known-1.given c.args.k)
 
-slice-read-counters : tie.Need-slice-read-counters
+slice-read-counters : tie.Need-bounds-counters-number
 slice-read-counters c = small c.before.before
 
-add-counters : tie.Need-overflow-add-counters
+add-counters : tie.Need-overflow_add-counters
 add-counters c = omega (arith, counter c.before.before)
 
-mul-counters-2 : tie.Need-overflow-mul-counters-2
-mul-counters-2 c = omega (arith, c.before.shared-slice-known.given c.before.before.args.k)
+mul-counters-2 : tie.Need-offset_bounds-counters-number-2
+mul-counters-2 c = omega (arith, c.shared_slice_known-1.given c.args.k)
 
-slice-write-counters : tie.Need-slice-write-counters
+slice-write-counters : tie.Need-bounds-counters-number-2
 slice-write-counters c = small c.before.before
 
 returns : tie.Need-returns
@@ -40,17 +40,17 @@ returns c =
     let a = s.args in
     tally-turn (length a.counters.now) a.numbers.now a.k a.counters.now s.requires.1 s.requires.0.1 (small s)
 
-pub count-one-spec : {M : Type 1} → statement M
-count-one-spec =
+pub count_one_spec : {M : Type 1} → statement M
+count_one_spec =
     tie.close
     (tie.spec
-    (λ c. search needs)
-    (λ c. search needs)
+    (λ c. search rules)
+    (λ c. search rules)
     cast-number
     mul-counters
     slice-read-counters
     add-counters
     mul-counters-2
     slice-write-counters
-    (λ c. search needs)
+    (λ c. search rules)
     returns)

@@ -5,34 +5,34 @@ use Rattle.plan.proofs.Several.{Walked, walk_begins, walk-several, walk-one, wal
 use Rattle.plan.proofs.routines.several_levels.Statement.{statement}
 use Rattle.plan.proofs.routines.several_levels.Tie as tie
 
-abbrev invariant-loop : tie.invariant-loop
-invariant-loop levels columns₀ many₀ i₀ i-end columns many i =
+abbrev invariant-loop-i : tie.invariant-loop-i
+invariant-loop-i levels columns₀ many₀ i₀ i-end columns many i =
     (i-end ≡ length levels) × (i ≤ i-end) × (length columns ≡ most_columns) × (many ≤ i) × Walked levels i columns many
 
-abbrev decreases-loop : tie.decreases-loop
-decreases-loop levels columns₀ many₀ i₀ i-end columns many i = i-end - i
+abbrev decreases-loop-i : tie.decreases-loop-i
+decreases-loop-i levels columns₀ many₀ i₀ i-end columns many i = i-end - i
 
-loop-holds : tie.Need-loop-init invariant-loop decreases-loop
+loop-holds : tie.Need-loop-i-init invariant-loop-i decreases-loop-i
 loop-holds c = (refl, omega arith, refl, omega arith, walk_begins c.args.levels.now)
 
-loop-again : tie.Need-loop-preserved invariant-loop decreases-loop
+loop-again : tie.Need-loop-i-preserved invariant-loop-i decreases-loop-i
 loop-again c =
-    let l = c.before.before.before.loop in
-    let levels = c.before.before.before.before.args.levels.now in
+    let l = c.loop-i in
+    let levels = c.args.levels.now in
     ⊎_elim
     (λ w. (refl, omega arith, rw (w.1, length-set) l.invariant.2, omega arith, rw (w.1, w.2) (walk-several levels l.invariant.4 (omega arith) w.0.taken)))
     (λ w. (refl, omega arith, rw w.1 l.invariant.2, omega arith, rw (w.1, w.2) (walk-one levels l.invariant.4 w.0.left)))
-    c.if1.branch
+    c.if-levels-i-gt1.branch
 
-returns : tie.Need-returns invariant-loop decreases-loop
-returns c = walk_ends c.before.before.args.levels.now c.before.loop.invariant.4 (omega arith)
+returns : tie.Need-returns invariant-loop-i decreases-loop-i
+returns c = walk_ends c.args.levels.now c.loop-i.invariant.4 (omega arith)
 
-pub several-levels-spec : {M : Type 1} → statement M
-several-levels-spec =
+pub several_levels_spec : {M : Type 1} → statement M
+several_levels_spec =
     tie.close
     (tie.spec
-    invariant-loop
-    decreases-loop
+    invariant-loop-i
+    decreases-loop-i
     loop-holds
     (λ c. omega arith)
     (λ c. omega arith)

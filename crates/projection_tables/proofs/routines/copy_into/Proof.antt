@@ -4,40 +4,40 @@ use Rattle.exact.proofs.Rooms.{copied, copy-next}
 use Rattle.projection_tables.proofs.routines.copy_into.Statement.{statement}
 use Rattle.projection_tables.proofs.routines.copy_into.Tie as tie
 
-abbrev invariant-loop : tie.invariant-loop
-invariant-loop xs n room₀ i₀ room i = (i ≤ n) × (length room ≡ length room₀) × (room ≡ copied xs room₀ i)
+abbrev invariant-loop-i : tie.invariant-loop-i
+invariant-loop-i xs n room₀ i₀ room i = (i ≤ n) × (length room ≡ length room₀) × (room ≡ copied xs room₀ i)
 
-abbrev decreases-loop : tie.decreases-loop
-decreases-loop xs n room₀ i₀ room i = n - i
+abbrev decreases-loop-i : tie.decreases-loop-i
+decreases-loop-i xs n room₀ i₀ room i = n - i
 
-loop-holds : tie.Need-loop-init invariant-loop decreases-loop
+loop-holds : tie.Need-loop-i-init invariant-loop-i decreases-loop-i
 loop-holds c = (omega arith, refl, refl)
 
-loop-again : tie.Need-loop-preserved invariant-loop decreases-loop
+loop-again : tie.Need-loop-i-preserved invariant-loop-i decreases-loop-i
 loop-again c =
-    let d = c.before.before in
-    let a = d.before.args in (
+    let d = c in
+    let a = d.args in (
       omega arith,
-      simp length-set d.loop.invariant.1,
-      rw d.loop.invariant.2 (copy-next a.xs.now a.room.now d.loop.i 0 (omega arith) (omega arith)),
+      simp length-set d.loop-i.invariant.1,
+      rw d.loop-i.invariant.2 (copy-next a.xs.now a.room.now d.loop-i.i 0 (omega arith) (omega arith)),
     )
 
-same_length : tie.Need-same-length invariant-loop decreases-loop
-same_length c = c.before.loop.invariant.1
+same_length : tie.Need-shape_of-room invariant-loop-i decreases-loop-i
+same_length c = c.loop-i.invariant.1
 
-returns : tie.Need-returns invariant-loop decreases-loop
+returns : tie.Need-returns invariant-loop-i decreases-loop-i
 returns c =
-    let d = c.before in
-    let a = d.before.args in
-    let z : d.loop.i ≡ a.n = omega arith in
-    rw (length-take-le a.n a.xs.now (omega arith), ← z) d.loop.invariant.2
+    let d = c in
+    let a = d.args in
+    let z : d.loop-i.i ≡ a.n = omega arith in
+    rw (length-take-le a.n a.xs.now (omega arith), ← z) d.loop-i.invariant.2
 
-pub copy-into-spec : {M : Type 1} → statement M
-copy-into-spec =
+pub copy_into_spec : {M : Type 1} → statement M
+copy_into_spec =
     tie.close
     (tie.spec
-    invariant-loop
-    decreases-loop
+    invariant-loop-i
+    decreases-loop-i
     loop-holds
     (λ c. omega arith)
     (λ c. omega arith)

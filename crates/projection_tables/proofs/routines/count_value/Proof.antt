@@ -1,92 +1,92 @@
 -- `projection_tables::routines::count_value` meets its contract: at the place that the search finds, the value's line, or where it is to stand.
-use Rattle.exact.proofs.Ground.{false, ⊎_elim, ◌≡◌, ◌∙◌, sym, ap, ◌≤◌, ◌<◌, arith, needs}
+use Rattle.exact.proofs.Ground.{false, ⊎_elim, ◌≡◌, ◌∙◌, sym, ap, ◌≤◌, ◌<◌, arith, rules}
 use Rattle.exact.specs.Fractions.{smaller_fraction, is_equal}
 use Rattle.projection_tables.specs.Tables.{rooms, fraction_at}
 use Rattle.projection_tables.proofs.Lines.{at-within, found-lines, found-rooms, new-lines, new-rooms}
 use Rattle.projection_tables.proofs.routines.count_value.Statement.{statement}
 use Rattle.projection_tables.proofs.routines.count_value.Tie as tie
 
-smaller-fraction-requires : tie.Need-smaller-fraction-requires
+smaller-fraction-requires : tie.Need-smaller_fraction-requires
 smaller-fraction-requires c κs =
-    let s = c.before.before.before.before.before.before.before.before.before in
-    (s.requires.0.short c.before.before.before.place_of.result (omega arith), s.requires.1)
+    let s = c in
+    (s.requires.0.short c.place_of-at.result (omega arith), s.requires.1)
 
-add-counts : tie.Need-overflow-add-counts
+add-counts : tie.Need-overflow_add-counts
 add-counts c =
-    let p = c.before.before.before.before.before.before.before in
-    let s = p.before.before.before.before.before.before in
-    omega (arith, s.requires.0.few p.place_of.result (omega arith))
+    let p = c in
+    let s = p in
+    omega (arith, s.requires.0.few p.place_of-at.result (omega arith))
 
-returns : tie.Need-returns
+returns : tie.Need-returns-then-is_equal
 returns c =
-    let p = c.before.before.before.before.before.before.before in
-    let s = p.before.before.before.before.before.before in
+    let p = c in
+    let s = p in
     let R = rooms s.args.nums.now s.args.dens.now s.args.counts.now in
-    let same = ap is_equal (sym c.before.before.before.smaller-fraction.ensures) ∙ sym c.before.before.is-equal.ensures ∙ c.before.if2.true in (
-      found-lines R s.args.used s.args.value s.requires.0 p.place_of.result p.place_of.ensures (omega arith) same,
-      found-rooms R s.args.used s.args.value s.requires.0 p.place_of.result p.place_of.ensures (omega arith) same,
+    let same = ap is_equal (sym c.smaller_fraction.ensures) ∙ sym c.is_equal.ensures ∙ c.if-is_equal.true in (
+      found-lines R s.args.used s.args.value s.requires.0 p.place_of-at.result p.place_of-at.ensures (omega arith) same,
+      found-rooms R s.args.used s.args.value s.requires.0 p.place_of-at.result p.place_of-at.ensures (omega arith) same,
     )
 
-other : (c : tie.Joined1) →
-    let s = c.before.before.before.before.before.before.before in
-    c.before.place_of.result < s.args.used →
-    is_equal (smaller_fraction (fraction_at s.args.nums.now s.args.dens.now c.before.place_of.result) s.args.value) ≡ false
+other : (c : tie.Joined-at-used) →
+    let s = c in
+    c.place_of-at.result < s.args.used →
+    is_equal (smaller_fraction (fraction_at s.args.nums.now s.args.dens.now c.place_of-at.result) s.args.value) ≡ false
 other c l =
-    ⊎_elim (λ w. ap is_equal (sym w.3.ensures) ∙ sym w.4.ensures ∙ w.5.left) (λ w. absurd (omega arith)) c.if1.branch
+    ⊎_elim (λ w. ap is_equal (sym w.3.ensures) ∙ sym w.4.ensures ∙ w.5.left) (λ w. absurd (omega arith)) c.if-at-used.branch
 
-within : (c : tie.Joined1) → c.before.place_of.result ≤ c.before.before.before.before.before.before.before.args.used
+within : (c : tie.Joined-at-used) → c.place_of-at.result ≤ c.args.used
 within c =
-    let s = c.before.before.before.before.before.before.before in
+    let s = c in
     at-within (rooms s.args.nums.now s.args.dens.now s.args.counts.now) s.args.used s.args.value s.requires.0
-    c.before.place_of.result c.before.place_of.ensures
+    c.place_of-at.result c.place_of-at.ensures
 
-put-before-requires : tie.Need-put-before-requires
+put-before-requires : tie.Need-put_before-requires
 put-before-requires c κs = omega (arith, within c.before)
 
-put-before-requires-2 : tie.Need-put-before-requires-2
+put-before-requires-2 : tie.Need-put_before-requires-2
 put-before-requires-2 c κs = omega (arith, within c.before.before.before.before.before)
 
-put-before-requires-3 : tie.Need-put-before-requires-3
+put-before-requires-3 : tie.Need-put_before-requires-3
 put-before-requires-3 c κs = omega (arith, within c.before.before.before.before.before.before.before.before.before)
 
-returns-2 : tie.Need-returns-2
+returns-2 : tie.Need-returns
 returns-2 c =
-    let third = c.before.before in
-    let second = third.before.before.before.before in
-    let first = second.before.before.before.before in
-    let j = first.before.before in
-    let s = j.before.before.before.before.before.before.before in
+    let third = c in
+    let second = third in
+    let first = second in
+    let j = first.before.before.before.before.before.before.before.before.before.before.before.before in
+    let s = j in
     let R = rooms s.args.nums.now s.args.dens.now s.args.counts.now in (
-      new-lines R s.args.used s.args.value s.requires.0 j.before.place_of.result j.before.place_of.ensures (other j),
-      rw (first.put-before.ensures, second.put-before2.ensures, third.put-before3.ensures)
-          (new-rooms R s.args.used s.args.value s.requires.0 j.before.place_of.result j.before.place_of.ensures (other j)),
+      new-lines R s.args.used s.args.value s.requires.0 j.place_of-at.result j.place_of-at.ensures (other j),
+      rw (first.put_before.ensures, second.put_before-2.ensures, third.put_before-3.ensures)
+          (new-rooms R s.args.used s.args.value s.requires.0 j.place_of-at.result j.place_of-at.ensures (other j)),
     )
 
-pub count-value-spec : {M : Type 1} → statement M
-count-value-spec =
+pub count_value_spec : {M : Type 1} → statement M
+count_value_spec =
     tie.close
     (tie.spec
-    (λ c κs. search needs)
-    (λ c. search needs)
-    (λ c. search needs)
-    (λ c. search needs)
-    (λ c. search needs)
+    (λ c κs. search rules)
+    (λ c. search rules)
+    (λ c. search rules)
+    (λ c. search rules)
+    (λ c. search rules)
     smaller-fraction-requires
-    (λ c κs. search needs)
-    (λ c. search needs)
-    (λ c. search needs)
+    (λ c κs. search rules)
+    (λ c. search rules)
+    (λ c. search rules)
     add-counts
-    (λ c. search needs)
-    (λ c. search needs)
-    (λ c. search needs)
-    (λ c. search needs)
-    (λ c. search needs)
+    (λ c. search rules)
+    (λ c. search rules)
+    (λ c. search rules)
+    (λ c. search rules)
+    (λ c. search rules)
     returns
     put-before-requires
     put-before-requires-2
     put-before-requires-3
-    (λ c. search needs)
-    (λ c. search needs)
-    (λ c. search needs)
-    (λ c. search needs)
+    (λ c. search rules)
+    (λ c. search rules)
+    (λ c. search rules)
+    (λ c. search rules)
     returns-2)

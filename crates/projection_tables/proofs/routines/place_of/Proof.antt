@@ -1,5 +1,5 @@
 -- `projection_tables::routines::place_of` meets its contract: none below `low` is as large, and the one at `high` is.
-use Rattle.exact.proofs.Ground.{◌≡◌, ◌∙◌, sym, ap, refl, ℕ, ◌≤◌, ◌<◌, ◌-◌, ◌+◌, ◌/◌, arith, needs}
+use Rattle.exact.proofs.Ground.{◌≡◌, ◌∙◌, sym, ap, refl, ℕ, ◌≤◌, ◌<◌, ◌-◌, ◌+◌, ◌/◌, arith, rules}
 use Rattle.exact.specs.Fractions.{is_better, smaller_fraction}
 use Rattle.projection_tables.specs.Tables.{fraction_at}
 use Rattle.projection_tables.specs.Given.{not_smaller}
@@ -9,95 +9,95 @@ use Rattle.projection_tables.proofs.routines.place_of.Tie as tie
 use Rattle.exact.proofs.fractions.is_better.Reads as is-better-reads
 use Rattle.exact.proofs.fractions.smaller_fraction.Reads as smaller-fraction-reads
 
-abbrev invariant-loop : tie.invariant-loop
-invariant-loop nums dens used value low₀ high₀ low high = Halved (not_smaller nums dens value) used low high
+abbrev invariant-loop-low : tie.invariant-loop-low
+invariant-loop-low nums dens used value low₀ high₀ low high = Halved (not_smaller nums dens value) used low high
 
-abbrev decreases-loop : tie.decreases-loop
-decreases-loop nums dens used value low₀ high₀ low high = high - low
+abbrev decreases-loop-low : tie.decreases-loop-low
+decreases-loop-low nums dens used value low₀ high₀ low high = high - low
 
-loop-holds : tie.Need-loop-init invariant-loop decreases-loop
+loop-holds : tie.Need-loop-low-init invariant-loop-low decreases-loop-low
 loop-holds c = record { ordered = omega arith; within = omega arith; none_below = λ k h. absurd (omega arith); passes = λ h. absurd (omega arith) }
 
 -- the line in the middle
-module _ (c : tie.In-loop invariant-loop decreases-loop) where
-  abbrev l : tie.At-loop invariant-loop decreases-loop
+module _ (c : tie.In-loop-low invariant-loop-low decreases-loop-low) where
+  abbrev l : tie.At-loop-low invariant-loop-low decreases-loop-low
   l = c.before
 
   abbrev middle : ℕ
-  middle = l.loop.low + (l.loop.high - l.loop.low) / 2
+  middle = l.loop-low.low + (l.loop-low.high - l.loop-low.low) / 2
 
-  between : (l.loop.low ≤ middle) × (middle < l.loop.high)
+  between : (l.loop-low.low ≤ middle) × (middle < l.loop-low.high)
   between = omega arith
 
-  inside : middle < l.before.before.before.args.used
-  inside = omega (arith, between, l.loop.inv.within)
+  inside : middle < l.args.used
+  inside = omega (arith, between, l.loop-low.invariant.within)
 
-sub-middle : tie.Need-overflow-sub-middle invariant-loop decreases-loop
+sub-middle : tie.Need-overflow_sub-middle invariant-loop-low decreases-loop-low
 sub-middle c = omega arith
 
-add-middle : tie.Need-overflow-add-middle invariant-loop decreases-loop
+add-middle : tie.Need-overflow_add-middle invariant-loop-low decreases-loop-low
 add-middle c = omega (arith, inside c)
 
-mul-t10 : tie.Need-overflow-mul-t10 invariant-loop decreases-loop
-mul-t10 c = omega (arith, inside c, c.before.before.before.before.requires.0.nums-hold)
+mul-t10 : tie.Need-offset_bounds-nums-middle invariant-loop-low decreases-loop-low
+mul-t10 c = omega (arith, inside c, c.requires.0.nums-hold)
 
-shared-slice-read-t13 : tie.Need-shared-slice-read-t13 invariant-loop decreases-loop
-shared-slice-read-t13 c = let d = c.before in omega (arith, inside d, d.before.before.before.before.requires.0.nums-hold)
+shared-slice-read-t13 : tie.Need-bounds-nums-middle invariant-loop-low decreases-loop-low
+shared-slice-read-t13 c = let d = c.before in omega (arith, inside d, d.requires.0.nums-hold)
 
-mul-t11 : tie.Need-overflow-mul-t11 invariant-loop decreases-loop
-mul-t11 c = let d = c.before in omega (arith, inside d, d.before.before.before.before.requires.0.nums-hold)
+mul-t11 : tie.Need-offset_bounds-dens-middle invariant-loop-low decreases-loop-low
+mul-t11 c = let d = c.before in omega (arith, inside d, d.requires.0.nums-hold)
 
-shared-slice-read-t15 : tie.Need-shared-slice-read-t15 invariant-loop decreases-loop
-shared-slice-read-t15 c = let d = c.before.before in omega (arith, inside d, d.before.before.before.before.requires.0.dens-hold)
+shared-slice-read-t15 : tie.Need-bounds-dens-middle invariant-loop-low decreases-loop-low
+shared-slice-read-t15 c = let d = c.before.before in omega (arith, inside d, d.requires.0.dens-hold)
 
-smaller-fraction-requires : tie.Need-smaller-fraction-requires invariant-loop decreases-loop
-smaller-fraction-requires c κs = let d = c.before.before in let s = d.before.before.before.before in (s.requires.0.short (middle d) (inside d), s.requires.1)
+smaller-fraction-requires : tie.Need-smaller_fraction-requires invariant-loop-low decreases-loop-low
+smaller-fraction-requires c κs = let d = c.before.before in let s = d in (s.requires.0.short (middle d) (inside d), s.requires.1)
 
-is-better-requires : tie.Need-is-better-requires invariant-loop decreases-loop
-is-better-requires c κs = search needs
+is-better-requires : tie.Need-is_better-requires invariant-loop-low decreases-loop-low
+is-better-requires c κs = search rules
 
-add_low : tie.Need-overflow-add-low invariant-loop decreases-loop
-add_low c = let d = c.before.before.before.before.before in omega (arith, inside d, d.before.before.before.before.requires.0.nums-hold)
+add_low : tie.Need-overflow_add-low invariant-loop-low decreases-loop-low
+add_low c = let d = c.before.before.before.before.before in omega (arith, inside d, d.requires.0.nums-hold)
 
 -- the test of a turn
-tested : (c : tie.After-is-better invariant-loop decreases-loop) → let d = c.before.before.before.before in let a = d.before.before.before.before.args in
-    c.is-better.result ≡ is_better (smaller_fraction (fraction_at a.nums.now a.dens.now (middle d)) a.value)
-tested c = c.is-better.ensures ∙ ap is_better c.before.smaller-fraction.ensures
+tested : (c : tie.After-is_better invariant-loop-low decreases-loop-low) → let d = c.before.before.before.before in let a = d.args in
+    c.is_better.result ≡ is_better (smaller_fraction (fraction_at a.nums.now a.dens.now (middle d)) a.value)
+tested c = c.is_better.ensures ∙ ap is_better c.smaller_fraction.ensures
 
-loop-less : tie.Need-loop-smaller invariant-loop decreases-loop
+loop-less : tie.Need-loop-low-smaller-then-is_better invariant-loop-low decreases-loop-low
 loop-less c = omega (arith, between c.before.before.before.before.before)
 
-loop-again : tie.Need-loop-preserved invariant-loop decreases-loop
+loop-again : tie.Need-loop-low-preserved-then-is_better invariant-loop-low decreases-loop-low
 loop-again c =
     let d = c.before.before.before.before.before in
-    let s = d.before.before.before.before in
+    let s = d in
     let a = s.args in
-    halved-up a.nums.now a.dens.now a.used a.value s.requires.0 s.requires.1 d.before.loop.low d.before.loop.high (middle d) d.before.loop.invariant
-    (between d).0 (between d).1 c.before.is-better.result (tested c.before) c.if1.true
+    halved-up a.nums.now a.dens.now a.used a.value s.requires.0 s.requires.1 d.loop-low.low d.loop-low.high (middle d) d.loop-low.invariant
+    (between d).0 (between d).1 c.is_better.result (tested c.before) c.if-is_better.true
 
-loop-less-2 : tie.Need-loop-smaller-2 invariant-loop decreases-loop
+loop-less-2 : tie.Need-loop-low-smaller invariant-loop-low decreases-loop-low
 loop-less-2 c = omega (arith, between c.before.before.before.before.before)
 
-loop-again-2 : tie.Need-loop-preserved-2 invariant-loop decreases-loop
+loop-again-2 : tie.Need-loop-low-preserved invariant-loop-low decreases-loop-low
 loop-again-2 c =
     let d = c.before.before.before.before.before in
-    let s = d.before.before.before.before in
+    let s = d in
     let a = s.args in
-    halved-down a.nums.now a.dens.now a.used a.value s.requires.0 s.requires.1 d.before.loop.low d.before.loop.high (middle d) d.before.loop.invariant
-    (between d).0 (between d).1 c.before.is-better.result (tested c.before) c.if1.false
+    halved-down a.nums.now a.dens.now a.used a.value s.requires.0 s.requires.1 d.loop-low.low d.loop-low.high (middle d) d.loop-low.invariant
+    (between d).0 (between d).1 c.is_better.result (tested c.before) c.if-is_better.false
 
-returns : tie.Need-returns invariant-loop decreases-loop
+returns : tie.Need-returns invariant-loop-low decreases-loop-low
 returns c =
-    let l = c.before in
-    let a = l.before.before.before.args in
-    halved-found (not_smaller a.nums.now a.dens.now a.value) a.used l.loop.low l.loop.high (omega (arith, l.loop.invariant.ordered)) l.loop.invariant
+    let l = c in
+    let a = l.args in
+    halved-found (not_smaller a.nums.now a.dens.now a.value) a.used l.loop-low.low l.loop-low.high (omega (arith, l.loop-low.invariant.ordered)) l.loop-low.invariant
 
-pub place-of-spec : {M : Type 1} → statement M
-place-of-spec =
+pub place_of_spec : {M : Type 1} → statement M
+place_of_spec =
     tie.close
     (tie.spec
-    invariant-loop
-    decreases-loop
+    invariant-loop-low
+    decreases-loop-low
     loop-holds
     sub-middle
     add-middle

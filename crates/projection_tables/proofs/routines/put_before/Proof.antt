@@ -4,41 +4,41 @@ use Rattle.projection_tables.proofs.Shifts.{moved, moved_none, moved-turn, moved
 use Rattle.projection_tables.proofs.routines.put_before.Statement.{statement}
 use Rattle.projection_tables.proofs.routines.put_before.Tie as tie
 
-abbrev invariant-loop : tie.invariant-loop
-invariant-loop room₀ used at x k₀ room k = (at ≤ k) × (k ≤ used) × (length room ≡ length room₀) × (room ≡ moved room₀ used k)
+abbrev invariant-loop-k : tie.invariant-loop-k
+invariant-loop-k room₀ used at x k₀ room k = (at ≤ k) × (k ≤ used) × (length room ≡ length room₀) × (room ≡ moved room₀ used k)
 
-abbrev decreases-loop : tie.decreases-loop
-decreases-loop room₀ used at x k₀ room k = k
+abbrev decreases-loop-k : tie.decreases-loop-k
+decreases-loop-k room₀ used at x k₀ room k = k
 
-loop-holds : tie.Need-loop-init invariant-loop decreases-loop
+loop-holds : tie.Need-loop-k-init invariant-loop-k decreases-loop-k
 loop-holds c = (omega arith, omega arith, refl, moved_none 0 c.args.room.now c.args.used (omega arith))
 
-loop-again : tie.Need-loop-preserved invariant-loop decreases-loop
+loop-again : tie.Need-loop-k-preserved invariant-loop-k decreases-loop-k
 loop-again c =
-    let d = c.before.before in
-    let s = d.before in (
+    let d = c in
+    let s = d in (
       omega arith,
       omega arith,
-      simp length-set d.loop.invariant.2,
-      rw d.loop.invariant.3 (moved-turn 0 s.args.room.now s.args.used (omega arith) d.loop.k (omega arith) (omega arith)),
+      simp length-set d.loop-k.invariant.2,
+      rw d.loop-k.invariant.3 (moved-turn 0 s.args.room.now s.args.used (omega arith) d.loop-k.k (omega arith) (omega arith)),
     )
 
-same_length : tie.Need-same-length invariant-loop decreases-loop
-same_length c = simp length-set c.before.loop.invariant.2
+same_length : tie.Need-shape_of-room invariant-loop-k decreases-loop-k
+same_length c = simp length-set c.loop-k.invariant.2
 
-returns : tie.Need-returns invariant-loop decreases-loop
+returns : tie.Need-returns invariant-loop-k decreases-loop-k
 returns c =
-    let d = c.before in
-    let s = d.before in
-    let z : d.loop.k ≡ s.args.at = omega arith in
-    rw (d.loop.invariant.3, z) (moved-put 0 s.args.room.now s.args.used (omega arith) s.args.at s.args.x (omega arith))
+    let d = c in
+    let s = d in
+    let z : d.loop-k.k ≡ s.args.at = omega arith in
+    rw (d.loop-k.invariant.3, z) (moved-put 0 s.args.room.now s.args.used (omega arith) s.args.at s.args.x (omega arith))
 
-pub put-before-spec : {M : Type 1} → statement M
-put-before-spec =
+pub put_before_spec : {M : Type 1} → statement M
+put_before_spec =
     tie.close
     (tie.spec
-    invariant-loop
-    decreases-loop
+    invariant-loop-k
+    decreases-loop-k
     loop-holds
     (λ c. omega arith)
     (λ c. omega arith)

@@ -3,36 +3,36 @@ use Rattle.exact.proofs.Ground.{◌-◌, arith}
 use Rattle.published.proofs.lines.line.Statement.{statement}
 use Rattle.published.proofs.lines.line.Tie as tie
 
-abbrev invariant-loop : tie.invariant-loop
-invariant-loop name numbers k₀ t4 k-end k = Unit {0}
+abbrev invariant-loop-k : tie.invariant-loop-k
+invariant-loop-k name numbers k₀ t4 k-end k = Unit {0}
 
-abbrev decreases-loop : tie.decreases-loop
-decreases-loop name numbers k₀ t4 k-end k = k-end - k
+abbrev decreases-loop-k : tie.decreases-loop-k
+decreases-loop-k name numbers k₀ t4 k-end k = k-end - k
 
-put-requires : tie.Need-put-requires invariant-loop decreases-loop
+put-requires : tie.Need-put-requires invariant-loop-k decreases-loop-k
 put-requires c κs = tt
 
-loop-holds : tie.Need-loop-init invariant-loop decreases-loop
+loop-holds : tie.Need-loop-k-init invariant-loop-k decreases-loop-k
 loop-holds c = tt
 
-field-requires : tie.Need-field-requires invariant-loop decreases-loop
+field-requires : tie.Need-field-requires invariant-loop-k decreases-loop-k
 field-requires c κs = tt
 
-loop-again : tie.Need-loop-preserved invariant-loop decreases-loop
+loop-again : tie.Need-loop-k-preserved invariant-loop-k decreases-loop-k
 loop-again c = tt
 
-put-requires-2 : tie.Need-put-requires-2 invariant-loop decreases-loop
+put-requires-2 : tie.Need-put-requires-2 invariant-loop-k decreases-loop-k
 put-requires-2 c κs = tt
 
-returns : tie.Need-returns invariant-loop decreases-loop
+returns : tie.Need-returns invariant-loop-k decreases-loop-k
 returns c = tt
 
-pub line-spec : {M : Type 1} → statement M
-line-spec =
+pub line_spec : {M : Type 1} → statement M
+line_spec =
     tie.close
     (tie.spec
-    invariant-loop
-    decreases-loop
+    invariant-loop-k
+    decreases-loop-k
     put-requires
     loop-holds
     (λ c. omega arith)

@@ -1,5 +1,5 @@
 -- `exact` meets its contract: a number of at most 2 ^ 53 in size is one that an f64 holds.
-use Rattle.exact.proofs.Ground.{◌≤◌, ◌^◌, T, pos, ℤ, nat_abs, negsuc, needs}
+use Rattle.exact.proofs.Ground.{◌≤◌, ◌^◌, T, pos, ℤ, nat_abs, negsuc, rules}
 use lib.Dec.{le→leb, lt→ltb}
 use lib.Ieee.{in_float, binary64}
 use Rattle.exact.proofs.Bits.{back}
@@ -11,8 +11,8 @@ unfolding in_float
 in-float (pos n) h = le→leb n (2 ^ 53) h
 in-float (negsuc n) h = lt→ltb n (2 ^ 53) h
 
-int-to-float-result : tie.Need-int-to-float-result
-int-to-float-result c = rw (back c.before.ranges.n) (in-float c.before.args.n c.before.requires)
+int-to-float-result : tie.Need-int_to_float-result
+int-to-float-result c = rw (back c.ranges.n) (in-float c.args.n c.requires)
 
-pub exact-spec : {M : Type 1} → statement M
-exact-spec = tie.close (tie.spec int-to-float-result (λ c. search needs))
+pub exact_spec : {M : Type 1} → statement M
+exact_spec = tie.close (tie.spec int-to-float-result (λ c. search rules))

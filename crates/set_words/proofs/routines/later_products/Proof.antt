@@ -9,18 +9,18 @@ use Rattle.set_words.proofs.SetWords.{run-starts, start_small, row-none, row_sma
 use Rattle.set_words.proofs.routines.later_products.Statement.{statement}
 use Rattle.set_words.proofs.routines.later_products.Tie as tie
 
-abbrev invariant-loop : tie.invariant-loop
-invariant-loop levels table runs at columns m a next total₀ k₀ total k =
+abbrev invariant-loop-k : tie.invariant-loop-k
+invariant-loop-k levels table runs at columns m a next total₀ k₀ total k =
     (at + 1 ≤ k) × (k ≤ length runs) × (to_z w64 total ≡ sum (drop k runs) (pair_of (plan levels table) columns (get_or runs at 0)))
 
-abbrev decreases-loop : tie.decreases-loop
-decreases-loop levels table runs at columns m a next total₀ k₀ total k = k
+abbrev decreases-loop-k : tie.decreases-loop-k
+decreases-loop-k levels table runs at columns m a next total₀ k₀ total k = k
 
 -- what the function is given, from the head of the loop
-abbrev start : tie.At-loop invariant-loop decreases-loop → tie.Start invariant-loop decreases-loop
+abbrev start : tie.At-loop-k invariant-loop-k decreases-loop-k → tie.Start invariant-loop-k decreases-loop-k
 start d = d.before.before.before.before.before.before
 
-module _ (s : tie.Start invariant-loop decreases-loop) where
+module _ (s : tie.Start invariant-loop-k decreases-loop-k) where
   abbrev given : Plan
   given = plan s.args.levels.now s.args.table.now
 
@@ -39,62 +39,62 @@ module _ (s : tie.Start invariant-loop decreases-loop) where
 
   -- where a run starts fits
   starts : (f : ℕ) → Memᴰ f rs → f * columns given ≤ most_runs * most_columns
-  starts f m = start_small given rs I s.pre.0 s.pre.1.0 f m
+  starts f m = start_small given rs I s.requires.0 s.requires.1.0 f m
 
 -- the run of a turn
-module _ (c : tie.In-loop invariant-loop decreases-loop) where
+module _ (c : tie.In-loop-k invariant-loop-k decreases-loop-k) where
   abbrev later : ℕ
-  later = get_or (rs (start c.before)) (c.before.loop.k - 1) 0
+  later = get_or (rs (start c.before)) (c.loop-k.k - 1) 0
 
   later-mem : Memᴰ later (rs (start c.before))
-  later-mem = get_or-mem (rs (start c.before)) (c.before.loop.k - 1) 0 (omega arith)
+  later-mem = get_or-mem (rs (start c.before)) (c.loop-k.k - 1) 0 (omega arith)
 
-mul-a-2 : tie.Need-overflow-mul-a-2 invariant-loop decreases-loop
+mul-a-2 : tie.Need-overflow_mul-a invariant-loop-k decreases-loop-k
 mul-a-2 c = let s = c.before.before.before.before.before in omega (arith, starts s (own s) (own-mem s))
 
-loop-holds : tie.Need-loop-init invariant-loop decreases-loop
+loop-holds : tie.Need-loop-k-init invariant-loop-k decreases-loop-k
 loop-holds c =
     let s = c.before.before.before.before.before in
     (omega arith, omega arith, row-none (given s) (rs s) (I s) s.requires.0 s.requires.1.0 (own s))
 
-mul-b-2 : tie.Need-overflow-mul-b-2 invariant-loop decreases-loop
+mul-b-2 : tie.Need-overflow_mul-b invariant-loop-k decreases-loop-k
 mul-b-2 c = omega (arith, starts (start c.before.before) (later c.before) (later-mem c.before))
 
-pair-product-requires : tie.Need-pair-product-requires invariant-loop decreases-loop
+pair-product-requires : tie.Need-pair_product-requires invariant-loop-k decreases-loop-k
 pair-product-requires c κs =
     let s = start c.before.before in
-    let run = run-starts (given s) (rs s) (I s) s.pre.0 s.pre.1.0 in
-    (s.pre.1.0, (run (own s) (own-mem s), run (later c.before) (later-mem c.before)))
+    let run = run-starts (given s) (rs s) (I s) s.requires.0 s.requires.1.0 in
+    (s.requires.1.0, (run (own s) (own-mem s), run (later c.before) (later-mem c.before)))
 
 -- the sum of this turn, read back from its bits
-turn : (c : tie.After-pair-product invariant-loop decreases-loop) →
+turn : (c : tie.After-pair_product invariant-loop-k decreases-loop-k) →
     let d = c.before.before.before in
     let s = start d in
-    to_z w64 (of_z w64 c.pair-product.result) +ℤ to_z w64 d.loop.total ≡ sum (drop (d.loop.k - 1) (rs s)) (pair_of (given s) (I s) (own s))
+    to_z w64 (of_z w64 c.pair_product.result) +ℤ to_z w64 d.loop-k.total ≡ sum (drop (d.loop-k.k - 1) (rs s)) (pair_of (given s) (I s) (own s))
 turn c =
     let d = c.before.before.before in
     let s = start d in
-    rw (of c.pair-product.result c.pair-product.type-inv, c.pair-product.ensures, d.loop.invariant.2)
-    (row-turn (given s) (rs s) (I s) s.pre.0 s.pre.1.0 (own s) d.loop.k (omega arith) (omega arith))
+    rw (of c.pair_product.result c.pair_product.type_inv, c.pair_product.ensures, d.loop-k.invariant.2)
+    (row-turn (given s) (rs s) (I s) s.requires.0 s.requires.1.0 (own s) d.loop-k.k (omega arith) (omega arith))
 
-add-requires : tie.Need-add-requires invariant-loop decreases-loop
+add-requires : tie.Need-add-total-requires invariant-loop-k decreases-loop-k
 add-requires c κs =
     let d = c.before.before.before in
     let s = start d in
-    rw (turn c) (omega (arith, row_small (given s) (rs s) (I s) s.pre.0 s.pre.1.0 (own s) (own-mem s) (d.loop.k - 1)))
+    rw (turn c) (omega (arith, row_small (given s) (rs s) (I s) s.requires.0 s.requires.1.0 (own s) (own-mem s) (d.loop-k.k - 1)))
 
-loop-again : tie.Need-loop-preserved invariant-loop decreases-loop
-loop-again c = (omega arith, omega arith, of c.add.result c.add.type-inv ∙ c.add.ensures ∙ turn c.before)
+loop-again : tie.Need-loop-k-preserved invariant-loop-k decreases-loop-k
+loop-again c = (omega arith, omega arith, of c.add-total.result c.add-total.type_inv ∙ c.add-total.ensures ∙ turn c.before)
 
-returns : tie.Need-returns invariant-loop decreases-loop
-returns c = let z : c.before.loop.k ≡ (start c.before).args.at + 1 = omega arith in rw z at c.before.loop.invariant.2
+returns : tie.Need-returns invariant-loop-k decreases-loop-k
+returns c = let z : c.loop-k.k ≡ (start c.before).args.at + 1 = omega arith in rw z at c.loop-k.invariant.2
 
-pub later-products-spec : {M : Type 1} → statement M
-later-products-spec =
+pub later_products_spec : {M : Type 1} → statement M
+later_products_spec =
     tie.close
     (tie.spec
-    invariant-loop
-    decreases-loop
+    invariant-loop-k
+    decreases-loop-k
     (λ c. omega arith)
     (λ c. omega arith)
     mul-a-2

@@ -30,5 +30,5 @@ returns c =
     let n = length s.args.runs.now in
     c.over.ensures ∙ ap (λ x. reduced (nat_abs x) (n * n * s.args.divisor)) (word s)
 
-pub word-over-spec : {M : Type 1} → statement M
-word-over-spec = tie.close (tie.spec over-requires returns)
+pub word_over_spec : {M : Type 1} → statement M
+word_over_spec = tie.close (tie.spec over-requires returns)

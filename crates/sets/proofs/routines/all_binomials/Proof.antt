@@ -7,5 +7,5 @@ returns : tie.Need-returns
 unfolding table
 returns c = table-binom
 
-pub all-binomials-spec : {M : Type 1} → statement M
-all-binomials-spec = tie.close (tie.spec returns)
+pub all_binomials_spec : {M : Type 1} → statement M
+all_binomials_spec = tie.close (tie.spec returns)

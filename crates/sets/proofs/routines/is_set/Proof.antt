@@ -5,48 +5,48 @@ use Rattle.sets.proofs.Rising.{rises, set-rises, rises-lower, rises-past, rises-
 use Rattle.sets.proofs.routines.is_set.Statement.{statement}
 use Rattle.sets.proofs.routines.is_set.Tie as tie
 
-abbrev invariant-loop : tie.invariant-loop
-invariant-loop m columns low₀ i₀ low i = (i ≤ length columns) × (is_set m columns ≡ rises low m (drop i columns))
+abbrev invariant-loop-i : tie.invariant-loop-i
+invariant-loop-i m columns low₀ i₀ low i = (i ≤ length columns) × (is_set m columns ≡ rises low m (drop i columns))
 
-abbrev decreases-loop : tie.decreases-loop
-decreases-loop m columns low₀ i₀ low i = length columns - i
+abbrev decreases-loop-i : tie.decreases-loop-i
+decreases-loop-i m columns low₀ i₀ low i = length columns - i
 
-loop-holds : tie.Need-loop-init invariant-loop decreases-loop
+loop-holds : tie.Need-loop-i-init invariant-loop-i decreases-loop-i
 loop-holds c = (omega arith, set-rises c.args.m c.args.columns.now)
 
-returns : tie.Need-returns invariant-loop decreases-loop
+returns : tie.Need-returns-then-column-low invariant-loop-i decreases-loop-i
 returns c =
-    let t = c.before.before in
-    let l = t.before.loop in
-    let a = t.before.before.args in
-    sym (l.invariant.1 ∙ rises-lower l.low a.m l.i a.columns.now t.loop-test.true c.if1.true)
+    let t = c in
+    let l = t.loop-i in
+    let a = t.args in
+    sym (l.invariant.1 ∙ rises-lower l.low a.m l.i a.columns.now t.loop-i-test.true c.if-column-low.true)
 
-returns-2 : tie.Need-returns-2 invariant-loop decreases-loop
+returns-2 : tie.Need-returns-then-m-column invariant-loop-i decreases-loop-i
 returns-2 c =
-    let t = c.before.before.before in
-    let l = t.before.loop in
-    let a = t.before.before.args in
-    sym (l.invariant.1 ∙ rises-past l.low a.m l.i a.columns.now t.loop-test.true c.before.if1.false c.if2.true)
+    let t = c in
+    let l = t.loop-i in
+    let a = t.args in
+    sym (l.invariant.1 ∙ rises-past l.low a.m l.i a.columns.now t.loop-i-test.true c.if-column-low.false c.if-m-column.true)
 
-loop-again : tie.Need-loop-preserved invariant-loop decreases-loop
+loop-again : tie.Need-loop-i-preserved invariant-loop-i decreases-loop-i
 loop-again c =
-    let t = c.before.before.before in
-    let l = t.before.loop in
-    let a = t.before.before.args in
-    (omega arith, l.invariant.1 ∙ rises-on l.low a.m l.i a.columns.now t.loop-test.true c.before.if1.false c.if2.false)
+    let t = c in
+    let l = t.loop-i in
+    let a = t.args in
+    (omega arith, l.invariant.1 ∙ rises-on l.low a.m l.i a.columns.now t.loop-i-test.true c.if-column-low.false c.if-m-column.false)
 
-returns-3 : tie.Need-returns-3 invariant-loop decreases-loop
+returns-3 : tie.Need-returns invariant-loop-i decreases-loop-i
 returns-3 c =
-    let l = c.before.loop in
-    let a = c.before.before.args in
+    let l = c.loop-i in
+    let a = c.args in
     sym (l.invariant.1 ∙ rises-all l.low a.m l.i a.columns.now (omega arith))
 
-pub is-set-spec : {M : Type 1} → statement M
-is-set-spec =
+pub is_set_spec : {M : Type 1} → statement M
+is_set_spec =
     tie.close
     (tie.spec
-    invariant-loop
-    decreases-loop
+    invariant-loop-i
+    decreases-loop-i
     loop-holds
     (λ c. omega arith)
     (λ c. omega arith)

@@ -1,99 +1,99 @@
 -- `sets::routines::place` meets its contract: the sets passed so far, and the place of the columns left among those left, are the set's place.
-use Rattle.exact.proofs.Ground.{⊎_elim, ◌≤◌, ◌<◌, ◌-◌, ◌+◌, arith, length, needs}
+use Rattle.exact.proofs.Ground.{⊎_elim, ◌≤◌, ◌<◌, ◌-◌, ◌+◌, arith, length, rules}
 use Rattle.sets.proofs.Walks.{Placing, set-size, placing-start, placing-fits, placing-end, column-left, placing-keep, placing-skip}
 use Rattle.sets.proofs.routines.place.Statement.{statement}
 use Rattle.sets.proofs.routines.place.Tie as tie
 
-abbrev invariant-loop : tie.invariant-loop
-invariant-loop m columns binomials place₀ column₀ taken₀ place column taken = Placing m columns column taken place
+abbrev invariant-loop-taken : tie.invariant-loop-taken
+invariant-loop-taken m columns binomials place₀ column₀ taken₀ place column taken = Placing m columns column taken place
 
-abbrev decreases-loop : tie.decreases-loop
-decreases-loop m columns binomials place₀ column₀ taken₀ place column taken = m - column
+abbrev decreases-loop-taken : tie.decreases-loop-taken
+decreases-loop-taken m columns binomials place₀ column₀ taken₀ place column taken = m - column
 
 -- in a turn a column is left, and every number is at most 24
-within : (c : tie.In-loop invariant-loop decreases-loop) → let a = c.before.before.before.before.args in
-    (c.before.loop.column < a.m) × (length a.columns.now ≤ a.m) × (a.m ≤ 24)
+within : (c : tie.In-loop-taken invariant-loop-taken decreases-loop-taken) → let a = c.args in
+    (c.loop-taken.column < a.m) × (length a.columns.now ≤ a.m) × (a.m ≤ 24)
 within c =
-    let s = c.before.before.before.before in
-    let l = c.before.loop in (
-      column-left s.args.m s.args.columns.now l.column l.taken l.place l.invariant c.loop-test.true,
+    let s = c in
+    let l = c.loop-taken in (
+      column-left s.args.m s.args.columns.now l.column l.taken l.place l.invariant c.loop-taken-test.true,
       set-size s.args.m s.args.columns.now s.requires.1,
       s.requires.0,
     )
 
-loop-holds : tie.Need-loop-init invariant-loop decreases-loop
-loop-holds c = let s = c.before.before in placing-start s.args.m s.args.columns.now s.requires.1
+loop-holds : tie.Need-loop-taken-init invariant-loop-taken decreases-loop-taken
+loop-holds c = let s = c in placing-start s.args.m s.args.columns.now s.requires.1
 
-mul-if1 : tie.Need-overflow-mul-if1 invariant-loop decreases-loop
+mul-if1 : tie.Need-offset_bounds-columns-taken invariant-loop-taken decreases-loop-taken
 mul-if1 c = omega (arith, within c)
 
-add-taken : tie.Need-overflow-add-taken invariant-loop decreases-loop
+add-taken : tie.Need-overflow_add-taken invariant-loop-taken decreases-loop-taken
 add-taken c = omega (arith, within c.before.before)
 
-sub-looked-up : tie.Need-overflow-sub-looked-up invariant-loop decreases-loop
+sub-looked-up : tie.Need-overflow_sub-m invariant-loop-taken decreases-loop-taken
 sub-looked-up c = omega (arith, within c.before.before.before)
 
-sub-looked-up-2 : tie.Need-overflow-sub-looked-up-2 invariant-loop decreases-loop
+sub-looked-up-2 : tie.Need-overflow_sub-m-else-columns-taken invariant-loop-taken decreases-loop-taken
 sub-looked-up-2 c = omega (arith, within c.before.before.before)
 
-sub-looked-up-3 : tie.Need-overflow-sub-looked-up-3 invariant-loop decreases-loop
+sub-looked-up-3 : tie.Need-overflow_sub-columns invariant-loop-taken decreases-loop-taken
 sub-looked-up-3 c = omega (arith, within c.before.before.before)
 
-sub-looked-up-4 : tie.Need-overflow-sub-looked-up-4 invariant-loop decreases-loop
+sub-looked-up-4 : tie.Need-overflow_sub-columns-else-columns-taken invariant-loop-taken decreases-loop-taken
 sub-looked-up-4 c = omega (arith, within c.before.before.before)
 
-looked-up-requires : tie.Need-looked-up-requires invariant-loop decreases-loop
+looked-up-requires : tie.Need-looked_up-place-requires invariant-loop-taken decreases-loop-taken
 looked-up-requires c κs =
-    let t = c.before.before.before in (t.before.before.all-binomials.ensures, omega (arith, within t))
+    let t = c.before.before.before in (t.all_binomials-binomials.ensures, omega (arith, within t))
 
 -- the column that is left out
-skipped : (c : tie.After-looked-up invariant-loop decreases-loop) →
-    let l = c.before.before.before.before.before in
-    let a = l.before.before.before.args in
-    Placing a.m a.columns.now (l.loop.column + 1) l.loop.taken (l.loop.place + c.looked-up.result)
+skipped : (c : tie.After-looked_up-place invariant-loop-taken decreases-loop-taken) →
+    let l = c in
+    let a = l.args in
+    Placing a.m a.columns.now (l.loop-taken.column + 1) l.loop-taken.taken (l.loop-taken.place + c.looked_up-place.result)
 skipped c =
-    let t = c.before.before.before.before in
-    let l = t.before.loop in
-    let a = t.before.before.before.before.args in
-    rw c.looked-up.ensures
-    (placing-skip a.m a.columns.now l.column l.taken l.place l.invariant t.loop-test.true c.before.before.if1.false)
+    let t = c in
+    let l = t.loop-taken in
+    let a = t.args in
+    rw c.looked_up-place.ensures
+    (placing-skip a.m a.columns.now l.column l.taken l.place l.invariant t.loop-taken-test.true c.if-columns-taken.false)
 
-add-place : tie.Need-overflow-add-place invariant-loop decreases-loop
+add-place : tie.Need-overflow_add-place invariant-loop-taken decreases-loop-taken
 add-place c =
-    let l = c.before.before.before.before.before.loop in
-    let s = c.before.before.before.before.before.before.before.before in
+    let l = c.loop-taken in
+    let s = c in
     let a = s.args in
-    omega (arith, placing-fits a.m a.columns.now (l.column + 1) l.taken (l.place + c.looked-up.result) (skipped c) s.requires.0 s.requires.1)
+    omega (arith, placing-fits a.m a.columns.now (l.column + 1) l.taken (l.place + c.looked_up-place.result) (skipped c) s.requires.0 s.requires.1)
 
-add-column : tie.Need-overflow-add-column invariant-loop decreases-loop
+add-column : tie.Need-overflow_add-column invariant-loop-taken decreases-loop-taken
 add-column c = omega (arith, within c.before.before)
 
-loop-less : tie.Need-loop-smaller invariant-loop decreases-loop
+loop-less : tie.Need-loop-taken-smaller invariant-loop-taken decreases-loop-taken
 loop-less c = omega (arith, within c.before.before)
 
-loop-again : tie.Need-loop-preserved invariant-loop decreases-loop
+loop-again : tie.Need-loop-taken-preserved invariant-loop-taken decreases-loop-taken
 loop-again c =
-    let t = c.before.before in
-    let l = t.before.loop in
-    let a = t.before.before.before.before.args in
+    let t = c in
+    let l = t.loop-taken in
+    let a = t.args in
     ⊎_elim
-    (λ w. rw (w.1, w.2) (placing-keep a.m a.columns.now l.column l.taken l.place l.invariant t.loop-test.true w.0.taken))
+    (λ w. rw (w.1, w.2) (placing-keep a.m a.columns.now l.column l.taken l.place l.invariant t.loop-taken-test.true w.0.taken))
     (λ w. rw (w.3, w.4) (skipped (record { before = record { before = record { before = c.before; if1 = w.0 }; binomials = w.1 }; looked-up = w.2 })))
-    c.if1.branch
+    c.if-columns-taken.branch
 
-returns : tie.Need-returns invariant-loop decreases-loop
+returns : tie.Need-returns invariant-loop-taken decreases-loop-taken
 returns c =
-    let l = c.before.loop in
-    let a = c.before.before.before.before.args in
+    let l = c.loop-taken in
+    let a = c.args in
     placing-end a.m a.columns.now l.column l.taken l.place l.invariant (omega (arith, l.invariant.taken))
 
-pub place-spec : {M : Type 1} → statement M
-place-spec =
+pub place_spec : {M : Type 1} → statement M
+place_spec =
     tie.close
     (tie.spec
-    invariant-loop
-    decreases-loop
-    (λ c κs. search needs)
+    invariant-loop-taken
+    decreases-loop-taken
+    (λ c κs. search rules)
     loop-holds
     mul-if1
     (λ c. omega arith)

@@ -1,28 +1,28 @@
 -- The word says which table it is.
-use Rattle.exact.proofs.Ground.{refl, arith, needs}
+use Rattle.exact.proofs.Ground.{refl, arith, rules}
 use Rattle.text.proofs.Puts.{put_as}
 use Rattle.table_lines.proofs.routines.write_head.Statement.{statement}
 use Rattle.table_lines.proofs.routines.write_head.Tie as tie
 
-returns : tie.Need-returns
+returns : tie.Need-returns-then-relative
 returns c =
-    let w = c.before.before in rw w.before.before.before.before.if1.true (put_as refl (omega arith) w.write-line.ensures)
+    let w = c in rw w.if-relative.true (put_as refl (omega arith) w.write_line.ensures)
 
-returns-2 : tie.Need-returns-2
+returns-2 : tie.Need-returns
 returns-2 c =
-    let w = c.before.before in rw w.before.before.before.before.if1.false (put_as refl (omega arith) w.write-line2.ensures)
+    let w = c in rw w.if-relative.false (put_as refl (omega arith) w.write_line-2.ensures)
 
-pub write-head-spec : {M : Type 1} → statement M
-write-head-spec =
+pub write_head_spec : {M : Type 1} → statement M
+write_head_spec =
     tie.close
     (tie.spec
-    (λ c. search needs)
-    (λ c. search needs)
-    (λ c κs. search needs)
-    (λ c. search needs)
+    (λ c. search rules)
+    (λ c. search rules)
+    (λ c κs. search rules)
+    (λ c. search rules)
     returns
-    (λ c. search needs)
-    (λ c. search needs)
-    (λ c κs. search needs)
-    (λ c. search needs)
+    (λ c. search rules)
+    (λ c. search rules)
+    (λ c κs. search rules)
+    (λ c. search rules)
     returns-2)

@@ -7,5 +7,5 @@ use Rattle.table_text.proofs.routines.lines_room.Tie as tie
 returns : tie.Need-returns
 returns c = sym (length-replicate {A = ℕ} most_bytes 0)
 
-pub lines-room-spec : {M : Type 1} → statement M
-lines-room-spec = tie.close (tie.spec returns)
+pub lines_room_spec : {M : Type 1} → statement M
+lines_room_spec = tie.close (tie.spec returns)

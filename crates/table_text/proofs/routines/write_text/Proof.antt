@@ -1,48 +1,48 @@
 -- The table of what is left of the text.
-use Rattle.exact.proofs.Ground.{arith, needs}
+use Rattle.exact.proofs.Ground.{arith, rules}
 use Rattle.standing_text.proofs.ReadLeft.{read-left-held}
 use Rattle.standing_text.proofs.Printed.{left-prints, question-prints}
 use Rattle.table_text.specs.TableText.{held_refusal, held_answer, table_refusal, table_text}
 use Rattle.table_text.proofs.routines.write_text.Statement.{statement}
 use Rattle.table_text.proofs.routines.write_text.Tie as tie
 
-abbrev start : tie.After-read-left → tie.Start
+abbrev start : tie.After-read_left-left → tie.Start
 start k = k.before.before.before.before
 
-returns : tie.Need-returns
+returns : tie.Need-returns-then-refused-ne0
 unfolding table_refusal table_text
 returns c =
-    let w = c.before.before in
-    let t = w.before.before in
-    let k = t.before.before.before in
+    let w = c in
+    let t = w in
+    let k = t.before.before.before.before.before.before.before in
     let a = (start k).args in
-    left-prints (held_refusal a.relative a.f) (held_answer a.relative a.f) a.text.now a.lost.now k.read_left.ensures
-    t.if1.true w.write-refused.ensures.0 (omega arith) w.write-refused.ensures.1
+    left-prints (held_refusal a.relative a.f) (held_answer a.relative a.f) a.text.now a.lost.now k.read_left-left.ensures
+    t.if-refused-ne0.true w.write_refused.ensures.0 (omega arith) w.write_refused.ensures.1
 
-write-held-requires : tie.Need-write-held-requires
+write-held-requires : tie.Need-write_held-requires
 write-held-requires c κs =
-    let k = c.before.before.before.before in
+    let k = c.before.before.before.before.before in
     let s = start k in
-    (rw k.read_left.ensures (read-left-held s.args.text.now s.args.lost.now), s.pre)
+    (rw k.read_left-left.ensures (read-left-held s.args.text.now s.args.lost.now), s.requires)
 
-returns-2 : tie.Need-returns-2
+returns-2 : tie.Need-returns
 unfolding table_refusal table_text
 returns-2 c =
-    let w = c.before.before in
-    let t = w.before.before in
-    let k = t.before.before.before in
+    let w = c in
+    let t = w in
+    let k = t.before.before.before.before.before.before.before.before in
     let a = (start k).args in
-    question-prints (held_refusal a.relative a.f) (held_answer a.relative a.f) a.text.now a.lost.now k.read_left.ensures
-    t.if1.false w.write-held.ensures.0 w.write-held.ensures.1
+    question-prints (held_refusal a.relative a.f) (held_answer a.relative a.f) a.text.now a.lost.now k.read_left-left.ensures
+    t.if-refused-ne0.false w.write_held.ensures.0 w.write_held.ensures.1
 
-pub write-text-spec : {M : Type 1} → statement M
-write-text-spec =
+pub write_text_spec : {M : Type 1} → statement M
+write_text_spec =
     tie.close
     (tie.spec
-    (λ c κs. search needs)
-    (λ c κs. search needs)
-    (λ c. search needs)
+    (λ c κs. search rules)
+    (λ c κs. search rules)
+    (λ c. search rules)
     returns
     write-held-requires
-    (λ c. search needs)
+    (λ c. search rules)
     returns-2)

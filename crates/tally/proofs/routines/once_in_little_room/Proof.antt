@@ -1,20 +1,20 @@
 -- `tally::routines::once_in_little_room` meets its contract: the counters are lent at zero.
-use Rattle.exact.proofs.Ground.{arith, needs}
+use Rattle.exact.proofs.Ground.{arith, rules}
 use Rattle.tally.proofs.Turns.{lent-new}
 use Rattle.tally.proofs.routines.once_in_little_room.Statement.{statement}
 use Rattle.tally.proofs.routines.once_in_little_room.Tie as tie
 
-once-in-requires : tie.Need-once-in-requires
-once-in-requires c κs = (c.before.before.before.before.before.requires, lent-new 168 (omega arith))
+once-in-requires : tie.Need-once_in-requires
+once-in-requires c κs = (c.requires, lent-new 168 (omega arith))
 
-pub once-in-little-room-spec : {M : Type 1} → statement M
-once-in-little-room-spec =
+pub once_in_little_room_spec : {M : Type 1} → statement M
+once_in_little_room_spec =
     tie.close
     (tie.spec
-    (λ c. search needs)
-    (λ c κs. search needs)
-    (λ c. search needs)
-    (λ c. search needs)
-    (λ c. search needs)
+    (λ c. search rules)
+    (λ c κs. search rules)
+    (λ c. search rules)
+    (λ c. search rules)
+    (λ c. search rules)
     once-in-requires
-    (λ c. search needs))
+    (λ c. search rules))

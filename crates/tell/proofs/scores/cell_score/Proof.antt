@@ -1,5 +1,5 @@
 -- `cell_score` meets its contract: the score of the entries where the runs are in one cell.
-use Rattle.exact.proofs.Ground.{List, [], ◌∷◌, ◌∙◌, sym, ℕ, arith, not-true, not-false, needs}
+use Rattle.exact.proofs.Ground.{List, [], ◌∷◌, ◌∙◌, sym, ℕ, arith, not-true, not-false, rules}
 use Rattle.exact.proofs.Bits.{of}
 use Rattle.rules.specs.Plan.{Plan, plan}
 use Rattle.tell.proofs.Turns.{asked-run}
@@ -14,40 +14,40 @@ module _ (s : tie.Start) where
   abbrev both : List ℕ
   both = s.args.f ∷ s.args.g ∷ []
 
-returns : tie.Need-returns
+returns : tie.Need-returns-then-not-agree
 returns c =
     let s = c.before.before.before.before.before in
     let a = s.args in
-    score-apart (given s) a.column a.others.now a.f a.g (sym c.before.agree.ensures ∙ not-true _ c.if1.true)
+    score-apart (given s) a.column a.others.now a.f a.g (sym c.agree.ensures ∙ not-true _ c.if-not-agree.true)
 
-returns-2 : tie.Need-returns-2
+returns-2 : tie.Need-returns
 returns-2 c =
-    let e = c.before.before in
-    let d = e.before in
-    let s = d.before.before.before.before.before.before in
+    let e = c in
+    let d = e in
+    let s = d.before.before.before.before.before.before.before.before.before in
     let a = s.args in
-    of c.score.result c.score.type-inv ∙ c.score.ensures
-    ∙ score-met (given s) a.column a.others.now a.f a.g d.level-of.result e.level-of2.result
-    d.level-of.ensures.0 e.level-of2.ensures.0 (sym d.before.before.agree.ensures ∙ not-false _ d.before.if1.false)
+    of c.score.result c.score.type_inv ∙ c.score.ensures
+    ∙ score-met (given s) a.column a.others.now a.f a.g d.level_of-x.result e.level_of-y.result
+    d.level_of-x.ensures.0 e.level_of-y.ensures.0 (sym d.agree.ensures ∙ not-false _ d.if-not-agree.false)
 
-level-of-requires : tie.Need-level-of-requires
+level-of-requires : tie.Need-level_of-x-requires
 level-of-requires c κs =
     let s = c.before.before.before.before.before in
     asked-run (given s) (both s) s.args.column s.args.others.now s.requires 0 (omega arith)
 
-level-of-requires-2 : tie.Need-level-of-requires-2
+level-of-requires-2 : tie.Need-level_of-y-requires
 level-of-requires-2 c κs =
     let s = c.before.before.before.before.before.before in
     asked-run (given s) (both s) s.args.column s.args.others.now s.requires 1 (omega arith)
 
-pub cell-score-spec : {M : Type 1} → statement M
-cell-score-spec =
+pub cell_score_spec : {M : Type 1} → statement M
+cell_score_spec =
     tie.close
     (tie.spec
-    (λ c κs. search needs)
+    (λ c κs. search rules)
     returns
     level-of-requires
     level-of-requires-2
-    (λ c. search needs)
-    (λ c κs. search needs)
+    (λ c. search rules)
+    (λ c κs. search rules)
     returns-2)

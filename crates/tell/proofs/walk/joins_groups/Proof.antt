@@ -1,5 +1,5 @@
 -- `joins_groups` meets its contract: levels of one group decide without the cells.
-use Rattle.exact.proofs.Ground.{List, [], ◌∷◌, mem-head, ◌∙◌, refl, ℕ, arith, needs}
+use Rattle.exact.proofs.Ground.{List, [], ◌∷◌, mem-head, ◌∙◌, refl, ℕ, arith, rules}
 use Rattle.rules.specs.Plan.{Plan, plan}
 use Rattle.tell.proofs.OfPlan.{below-16}
 use Rattle.tell.proofs.Turns.{asked-run, same-group, other-group}
@@ -13,41 +13,41 @@ module _ (s : tie.Start) where
   abbrev both : List ℕ
   both = s.args.f ∷ s.args.g ∷ []
 
-returns : tie.Need-returns
+returns : tie.Need-returns-then-groups-x
 returns c =
-    let d = c.before in
-    let s = d.before.before.before.before in
+    let d = c in
+    let s = d.before.before.before.before.before in
     let a = s.args in
-    same-group (given s) a.column a.others.now a.f a.g a.t8 a.x d.level-of.result s.requires.1 d.level-of.ensures.0
-    c.if1.true
+    same-group (given s) a.column a.others.now a.f a.g a.t8 a.x d.level_of-y.result s.requires.1 d.level_of-y.ensures.0
+    c.if-groups-x.true
 
-returns-2 : tie.Need-returns-2
+returns-2 : tie.Need-returns
 returns-2 c =
-    let d = c.before.before in
-    let s = d.before.before.before.before in
+    let d = c in
+    let s = d.before.before.before.before.before.before in
     let a = s.args in
     c.agree.ensures
-    ∙ other-group (given s) a.column a.others.now a.f a.g a.t8 a.x d.level-of.result s.requires.1 d.level-of.ensures.0
-    c.before.if1.false
+    ∙ other-group (given s) a.column a.others.now a.f a.g a.t8 a.x d.level_of-y.result s.requires.1 d.level_of-y.ensures.0
+    c.if-groups-x.false
 
-level-of-requires : tie.Need-level-of-requires
+level-of-requires : tie.Need-level_of-y-requires
 level-of-requires c κs =
     let s = c.before.before.before in
     asked-run (given s) (both s) s.args.column s.args.others.now s.requires.0 1 (omega arith)
 
-array-read-if1 : tie.Need-array-read-if1
+array-read-if1 : tie.Need-bounds-groups-x
 array-read-if1 c =
     let s = c.before.before.before.before in
     omega (arith, s.requires.1, below-16 (given s) (both s) s.args.column s.args.others.now s.requires.0 s.args.f (mem-head refl))
 
-pub joins-groups-spec : {M : Type 1} → statement M
-joins-groups-spec =
+pub joins_groups_spec : {M : Type 1} → statement M
+joins_groups_spec =
     tie.close
     (tie.spec
     level-of-requires
-    (λ c. search needs)
+    (λ c. search rules)
     array-read-if1
-    (λ c. search needs)
+    (λ c. search rules)
     returns
-    (λ c κs. search needs)
+    (λ c κs. search rules)
     returns-2)

@@ -13,25 +13,25 @@ module _ (s : tie.Start) where
       (let h = S.numbered s.args.f (mem-head refl) in omega arith) S.columns-high
 
   within : s.args.f * length s.args.levels.now + s.args.column < length s.args.table.now
-  within = omega (arith, s.pre.sound.inside s.args.f (mem-head refl), s.pre.column)
+  within = omega (arith, s.requires.sound.inside s.args.f (mem-head refl), s.requires.column)
 
   small : entry (plan s.args.levels.now s.args.table.now) s.args.f s.args.column < 16
   small =
-      let S = s.pre.sound in
-      omega (arith, S.below s.args.f (mem-head refl) s.args.column s.pre.column, S.level-high s.args.column s.pre.column)
+      let S = s.requires.sound in
+      omega (arith, S.below s.args.f (mem-head refl) s.args.column s.requires.column, S.level-high s.args.column s.requires.column)
 
-mul-place : tie.Need-overflow-mul-place
+mul-place : tie.Need-overflow_mul-place
 mul-place c = omega (arith, starts c)
 
-add-place : tie.Need-overflow-add-place
+add-place : tie.Need-overflow_add-place
 add-place c = omega (arith, starts c, c.requires.column, c.requires.sound.columns-high)
 
-shared-slice-read-result : tie.Need-shared-slice-read-result
+shared-slice-read-result : tie.Need-bounds-table-place
 shared-slice-read-result c = within c.before
 
 returns : tie.Need-returns
 returns c = (refl, small c.before)
 
-pub level-of-spec : {M : Type 1} → statement M
-level-of-spec =
+pub level_of_spec : {M : Type 1} → statement M
+level_of_spec =
     tie.close (tie.spec mul-place add-place shared-slice-read-result returns)

@@ -1,6 +1,6 @@
 -- `met_later` meets its contract: what is left to meet the run, from the groups and links so far, gives what all later runs give. Where all
 -- levels are joined that is what there is.
-use Rattle.exact.proofs.Ground.{◌≡◌, refl, sym, ◌∙◌, ap, subst, ⊎_elim, suc, ◌+◌, ◌-◌, ◌≤◌, arith, length, get_or, drop, needs}
+use Rattle.exact.proofs.Ground.{◌≡◌, refl, sym, ◌∙◌, ap, subst, ⊎_elim, suc, ◌+◌, ◌-◌, ◌≤◌, arith, length, get_or, drop, rules}
 use Rattle.rules.specs.Plan.{Plan, plan, level}
 use Rattle.tell.specs.Given.{after_run}
 use Rattle.tell.proofs.Turns.{asked-run, asked-two}
@@ -8,57 +8,57 @@ use Rattle.tell.proofs.Joining.{Walked, after_turn, turn-links, turn-passes, wal
 use Rattle.tell.proofs.walk.met_later.Statement.{statement}
 use Rattle.tell.proofs.walk.met_later.Tie as tie
 
-abbrev invariant-loop : tie.invariant-loop
-invariant-loop levels table runs at column others last f x state₀ k₀ k-end state k =
+abbrev invariant-loop-k : tie.invariant-loop-k
+invariant-loop-k levels table runs at column others last f x state₀ k₀ k-end state k =
     (at + 1 ≤ k) × (k ≤ length runs) × (k-end ≡ length runs) × Walked (level (plan levels table) column) state
     × (after_run (plan levels table) column others f (drop k runs) state ≡ after_run (plan levels table) column others f (drop (at + 1) runs) state₀)
 
-abbrev decreases-loop : tie.decreases-loop
-decreases-loop levels table runs at column others last f x state₀ k₀ k-end state k = length runs - k
+abbrev decreases-loop-k : tie.decreases-loop-k
+decreases-loop-k levels table runs at column others last f x state₀ k₀ k-end state k = length runs - k
 
-abbrev given : tie.Start invariant-loop decreases-loop → Plan
+abbrev given : tie.Start invariant-loop-k decreases-loop-k → Plan
 given s = plan s.args.levels.now s.args.table.now
 
 -- what the function is given, from the head of the loop
-abbrev start : tie.At-loop invariant-loop decreases-loop → tie.Start invariant-loop decreases-loop
+abbrev start : tie.At-loop-k invariant-loop-k decreases-loop-k → tie.Start invariant-loop-k decreases-loop-k
 start l = l.before.before.before.before.before.before.before
 
-returns : tie.Need-returns invariant-loop decreases-loop
+returns : tie.Need-returns-then-state-last invariant-loop-k decreases-loop-k
 returns c =
     let l = c.before.before.before in
     let s = start l in
     let a = s.args in
-    sym (run-full (given s) a.column a.others.now a.runs.now s.pre.0.0 a.at l.loop.k l.loop.state s.pre.0.1
-    l.loop.invariant.3 (ap suc c.if1.true ∙ s.pre.1.0)) ∙ l.loop.invariant.4
+    sym (run-full (given s) a.column a.others.now a.runs.now s.requires.0.0 a.at l.loop-k.k l.loop-k.state s.requires.0.1
+    l.loop-k.invariant.3 (ap suc c.if-state-last.true ∙ s.requires.1.0)) ∙ l.loop-k.invariant.4
 
-returns-2 : tie.Need-returns-2 invariant-loop decreases-loop
+returns-2 : tie.Need-returns invariant-loop-k decreases-loop-k
 returns-2 c =
     let l = c.before in
     let s = start l in
     let a = s.args in
-    sym (run_none (given s) a.column a.others.now (get_or a.runs.now a.at 0) a.runs.now l.loop.k l.loop.state (omega arith))
-    ∙ l.loop.invariant.4
+    sym (run_none (given s) a.column a.others.now (get_or a.runs.now a.at 0) a.runs.now l.loop-k.k l.loop-k.state (omega arith))
+    ∙ l.loop-k.invariant.4
 
 -- what a turn makes of the groups and the links
-turn : (c : tie.Joined2 invariant-loop decreases-loop) →
+turn : (c : tie.Joined-joins_groups invariant-loop-k decreases-loop-k) →
     let l = c.before.before.before.before.before.before.before in
     let s = start l in
     let rs = s.args.runs.now in
-    c.if2.state ≡ after_turn (given s) s.args.column s.args.others.now (get_or rs s.args.at 0) (get_or rs l.loop.k 0) l.loop.state
+    c.if-joins_groups.state ≡ after_turn (given s) s.args.column s.args.others.now (get_or rs s.args.at 0) (get_or rs l.loop-k.k 0) l.loop-k.state
 turn c =
     let l = c.before.before.before.before.before.before.before in
     let s = start l in
     let a = s.args in
     let f = get_or a.runs.now a.at 0 in
-    let g = get_or a.runs.now l.loop.k 0 in
-    let found = sym c.before.joins-groups.ensures in
+    let g = get_or a.runs.now l.loop-k.k 0 in
+    let found = sym c.joins_groups.ensures in
     ⊎_elim
     (λ w. w.3 ∙ w.2.ensures
-    ∙ turn-links (given s) a.column a.others.now f g l.loop.state l.before.level-of.result w.1.result
-    l.before.level-of.ensures.0 w.1.ensures.0 (found ∙ w.0.taken))
-    (λ w. w.1 ∙ turn-passes (given s) a.column a.others.now f g l.loop.state (found ∙ w.0.left)) c.if2.branch
+    ∙ turn-links (given s) a.column a.others.now f g l.loop-k.state l.level_of-x.result w.1.result
+    l.level_of-x.ensures.0 w.1.ensures.0 (found ∙ w.0.taken))
+    (λ w. w.1 ∙ turn-passes (given s) a.column a.others.now f g l.loop-k.state (found ∙ w.0.left)) c.if-joins_groups.branch
 
-loop-again : tie.Need-loop-preserved invariant-loop decreases-loop
+loop-again : tie.Need-loop-k-preserved invariant-loop-k decreases-loop-k
 loop-again c =
     let l = c.before.before.before.before.before.before.before in
     let s = start l in
@@ -70,51 +70,51 @@ loop-again c =
       omega arith,
       refl,
       subst (Walked (level p a.column)) (sym (turn c))
-          (walked-two p a.column J rs s.pre.0.0 a.at l.loop.k l.loop.state s.pre.0.1 (omega arith) l.loop.invariant.3),
-      ap (after_run p a.column J (get_or rs a.at 0) (drop (l.loop.k + 1) rs)) (turn c)
-          ∙ sym (run-next p a.column J (get_or rs a.at 0) rs l.loop.k l.loop.state (omega arith)) ∙ l.loop.invariant.4,
+          (walked-two p a.column J rs s.requires.0.0 a.at l.loop-k.k l.loop-k.state s.requires.0.1 (omega arith) l.loop-k.invariant.3),
+      ap (after_run p a.column J (get_or rs a.at 0) (drop (l.loop-k.k + 1) rs)) (turn c)
+          ∙ sym (run-next p a.column J (get_or rs a.at 0) rs l.loop-k.k l.loop-k.state (omega arith)) ∙ l.loop-k.invariant.4,
     )
 
-level-of-requires : tie.Need-level-of-requires invariant-loop decreases-loop
+level-of-requires : tie.Need-level_of-x-requires invariant-loop-k decreases-loop-k
 level-of-requires c κs =
     let s = c.before.before.before.before.before in
     let a = s.args in
     asked-run (given s) a.runs.now a.column a.others.now s.requires.0.0 a.at s.requires.0.1
 
-loop-holds : tie.Need-loop-init invariant-loop decreases-loop
-loop-holds c = (omega arith, omega arith, refl, c.before.before.before.before.before.before.requires.1.1, refl)
+loop-holds : tie.Need-loop-k-init invariant-loop-k decreases-loop-k
+loop-holds c = (omega arith, omega arith, refl, c.requires.1.1, refl)
 
-joins-groups-requires : tie.Need-joins-groups-requires invariant-loop decreases-loop
+joins-groups-requires : tie.Need-joins_groups-requires invariant-loop-k decreases-loop-k
 joins-groups-requires c κs =
     let l = c.before.before.before.before.before in
     let s = start l in
     let a = s.args in (
-      asked-two (given s) a.runs.now a.column a.others.now s.pre.0.0 a.at l.loop.k s.pre.0.1 (omega arith),
-      l.before.level-of.ensures.0,
+      asked-two (given s) a.runs.now a.column a.others.now s.requires.0.0 a.at l.loop-k.k s.requires.0.1 (omega arith),
+      l.level_of-x.ensures.0,
     )
 
-level-of-requires-2 : tie.Need-level-of-requires-2 invariant-loop decreases-loop
+level-of-requires-2 : tie.Need-level_of-y-requires invariant-loop-k decreases-loop-k
 level-of-requires-2 c κs =
     let l = c.before.before.before.before.before.before.before in
     let s = start l in
     let a = s.args in
-    asked-run (given s) a.runs.now a.column a.others.now s.pre.0.0 l.loop.k (omega arith)
+    asked-run (given s) a.runs.now a.column a.others.now s.requires.0.0 l.loop-k.k (omega arith)
 
-met-requires : tie.Need-met-requires invariant-loop decreases-loop
+met-requires : tie.Need-met-after-requires invariant-loop-k decreases-loop-k
 met-requires c κs =
-    let l = c.before.before.before.before.before.before.before.before in
-    (l.loop.invariant.3.0, (l.before.level-of.ensures.1, c.level-of2.ensures.1))
+    let l = c in
+    (l.loop-k.invariant.3.0, (l.level_of-x.ensures.1, c.level_of-y.ensures.1))
 
-pub met-later-spec : {M : Type 1} → statement M
-met-later-spec =
+pub met_later_spec : {M : Type 1} → statement M
+met_later_spec =
     tie.close
     (tie.spec
-    invariant-loop
-    decreases-loop
+    invariant-loop-k
+    decreases-loop-k
     (λ c. omega arith)
     (λ c. omega arith)
     level-of-requires
-    (λ c. search needs)
+    (λ c. search rules)
     (λ c. omega arith)
     loop-holds
     returns
@@ -122,7 +122,7 @@ met-later-spec =
     (λ c. omega arith)
     joins-groups-requires
     level-of-requires-2
-    (λ c. search needs)
+    (λ c. search rules)
     met-requires
     (λ c. omega arith)
     (λ c. omega arith)

@@ -8,29 +8,29 @@ use Rattle.tell_lines.proofs.Rows.{Begun, begun-next, begun_all}
 use Rattle.tell_lines.proofs.routines.column_of.Statement.{statement}
 use Rattle.tell_lines.proofs.routines.column_of.Tie as tie
 
-abbrev invariant-loop : tie.invariant-loop
-invariant-loop levels table runs column entries₀ k₀ k-end entries k =
+abbrev invariant-loop-k : tie.invariant-loop-k
+invariant-loop-k levels table runs column entries₀ k₀ k-end entries k =
     (k ≤ length runs) × (k-end ≡ length runs) × Begun (column_of (plan levels table) runs column) 256 k entries
 
-abbrev decreases-loop : tie.decreases-loop
-decreases-loop levels table runs column entries₀ k₀ k-end entries k = length runs - k
+abbrev decreases-loop-k : tie.decreases-loop-k
+decreases-loop-k levels table runs column entries₀ k₀ k-end entries k = length runs - k
 
-abbrev start : tie.At-loop invariant-loop decreases-loop → tie.Start invariant-loop decreases-loop
+abbrev start : tie.At-loop-k invariant-loop-k decreases-loop-k → tie.Start invariant-loop-k decreases-loop-k
 start l = l.before.before.before.before
 
-loop-holds : tie.Need-loop-init invariant-loop decreases-loop
+loop-holds : tie.Need-loop-k-init invariant-loop-k decreases-loop-k
 loop-holds c = (omega arith, refl, refl)
 
-entry-at-requires : tie.Need-entry-at-requires invariant-loop decreases-loop
+entry-at-requires : tie.Need-entry_at-requires invariant-loop-k decreases-loop-k
 entry-at-requires c κs =
     let l = c.before.before in
     let s = start l in
-    asked-run (plan s.args.levels.now s.args.table.now) s.args.runs.now s.args.column [] s.pre l.loop.k (omega arith)
+    asked-run (plan s.args.levels.now s.args.table.now) s.args.runs.now s.args.column [] s.requires l.loop-k.k (omega arith)
 
-array-write-entries : tie.Need-array-write-entries invariant-loop decreases-loop
-array-write-entries c = omega (arith, (start c.before.before.before).pre.sound.few)
+array-write-entries : tie.Need-bounds-entries-k invariant-loop-k decreases-loop-k
+array-write-entries c = omega (arith, (start c.before.before.before).requires.sound.few)
 
-loop-again : tie.Need-loop-preserved invariant-loop decreases-loop
+loop-again : tie.Need-loop-k-preserved invariant-loop-k decreases-loop-k
 loop-again c =
     let l = c.before.before.before in
     let s = start l in
@@ -40,24 +40,24 @@ loop-again c =
     let n = length-map rs has in (
       omega arith,
       refl,
-      begun-next (map has rs) 256 l.loop.k c.entry_at.result (omega (arith, n)) (omega (arith, n, s.pre.sound.few)) l.loop.invariant.2
-          (c.entry_at.ensures ∙ sym (get_d_map has rs l.loop.k 0 0 (omega arith))),
+      begun-next (map has rs) 256 l.loop-k.k c.entry_at.result (omega (arith, n)) (omega (arith, n, s.requires.sound.few)) l.loop-k.invariant.2
+          (c.entry_at.ensures ∙ sym (get_d_map has rs l.loop-k.k 0 0 (omega arith))),
     )
 
-returns : tie.Need-returns invariant-loop decreases-loop
+returns : tie.Need-returns invariant-loop-k decreases-loop-k
 returns c =
     let l = c.before in
     let s = start l in
     let p = plan s.args.levels.now s.args.table.now in
     let n = length-map s.args.runs.now (λ f. entry p f s.args.column) in
-    begun_all (column_of p s.args.runs.now s.args.column) 256 l.loop.k (omega (arith, n)) l.loop.invariant.2
+    begun_all (column_of p s.args.runs.now s.args.column) 256 l.loop-k.k (omega (arith, n)) l.loop-k.invariant.2
 
-pub column-of-spec : {M : Type 1} → statement M
-column-of-spec =
+pub column_of_spec : {M : Type 1} → statement M
+column_of_spec =
     tie.close
     (tie.spec
-    invariant-loop
-    decreases-loop
+    invariant-loop-k
+    decreases-loop-k
     loop-holds
     (λ c. omega arith)
     (λ c. omega arith)

@@ -5,54 +5,54 @@ use Rattle.tell_lines.proofs.Sifted.{Sifted, sifted-next, sifted-passed}
 use Rattle.tell_lines.proofs.routines.members_of.Statement.{statement}
 use Rattle.tell_lines.proofs.routines.members_of.Tie as tie
 
-abbrev invariant-loop : tie.invariant-loop
-invariant-loop s k groups levels₀ many₀ x₀ levels many x =
+abbrev invariant-loop-x : tie.invariant-loop-x
+invariant-loop-x s k groups levels₀ many₀ x₀ levels many x =
     (x ≤ s) × (s ≤ most_groups) × (length levels ≡ most_groups) × (many ≤ x) × Sifted (λ y. eqb (group_of groups y) k) most_groups x levels many
 
-abbrev decreases-loop : tie.decreases-loop
-decreases-loop s k groups levels₀ many₀ x₀ levels many x = s - x
+abbrev decreases-loop-x : tie.decreases-loop-x
+decreases-loop-x s k groups levels₀ many₀ x₀ levels many x = s - x
 
-loop-holds : tie.Need-loop-init invariant-loop decreases-loop
+loop-holds : tie.Need-loop-x-init invariant-loop-x decreases-loop-x
 loop-holds c = (omega arith, c.requires, refl, omega arith, record { are = refl; count = refl })
 
-array-read-wide : tie.Need-array-read-wide invariant-loop decreases-loop
-array-read-wide c = omega (arith, c.before.loop.invariant.1)
+array-read-wide : tie.Need-bounds-groups-x invariant-loop-x decreases-loop-x
+array-read-wide c = omega (arith, c.loop-x.invariant.1)
 
-wide-requires : tie.Need-wide-requires invariant-loop decreases-loop
+wide-requires : tie.Need-wide-requires invariant-loop-x decreases-loop-x
 wide-requires c κs = tt
 
-loop-again : tie.Need-loop-preserved invariant-loop decreases-loop
+loop-again : tie.Need-loop-x-preserved invariant-loop-x decreases-loop-x
 loop-again c =
-    let l = c.before.before.before in
-    let s = l.before.args in
+    let l = c in
+    let s = l.args in
     let test : ℕ → Bool = λ y. eqb (group_of s.t1 y) s.k in
     ⊎_elim
     (λ w. (
       omega arith,
-      l.loop.invariant.1,
-      rw (w.1, length-set) l.loop.invariant.2,
+      l.loop-x.invariant.1,
+      rw (w.1, length-set) l.loop-x.invariant.2,
       omega arith,
-      rw (w.1, w.2) (sifted-next test most_groups l.loop.x (omega arith) l.loop.invariant.4 (eq-eqb _ _ (sym c.before.wide.ensures ∙ w.0.taken))),
+      rw (w.1, w.2) (sifted-next test most_groups l.loop-x.x (omega arith) l.loop-x.invariant.4 (eq-eqb _ _ (sym c.wide.ensures ∙ w.0.taken))),
     ))
     (λ w. (
       omega arith,
-      l.loop.invariant.1,
-      rw w.1 l.loop.invariant.2,
+      l.loop-x.invariant.1,
+      rw w.1 l.loop-x.invariant.2,
       omega arith,
-      rw (w.1, w.2) (sifted-passed test most_groups l.loop.x l.loop.invariant.4 (ne_eqb _ _ (λ e. w.0.left (c.before.wide.ensures ∙ e)))),
+      rw (w.1, w.2) (sifted-passed test most_groups l.loop-x.x l.loop-x.invariant.4 (ne_eqb _ _ (λ e. w.0.left (c.wide.ensures ∙ e)))),
     ))
-    c.if1.branch
+    c.if-wide-k.branch
 
-returns : tie.Need-returns invariant-loop decreases-loop
+returns : tie.Need-returns invariant-loop-x decreases-loop-x
 returns c =
-    let l = c.before.loop in let e : l.x ≡ c.before.before.args.s = omega arith in (rw (← e) l.invariant.4.are, rw (← e) l.invariant.4.count)
+    let l = c.loop-x in let e : l.x ≡ c.args.s = omega arith in (rw (← e) l.invariant.4.are, rw (← e) l.invariant.4.count)
 
-pub members-of-spec : {M : Type 1} → statement M
-members-of-spec =
+pub members_of_spec : {M : Type 1} → statement M
+members_of_spec =
     tie.close
     (tie.spec
-    invariant-loop
-    decreases-loop
+    invariant-loop-x
+    decreases-loop-x
     loop-holds
     array-read-wide
     wide-requires

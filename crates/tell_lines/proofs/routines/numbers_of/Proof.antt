@@ -11,39 +11,39 @@ use Rattle.tell_lines.proofs.Rows.{Begun, begun-next, begun_all}
 use Rattle.tell_lines.proofs.routines.numbers_of.Statement.{statement}
 use Rattle.tell_lines.proofs.routines.numbers_of.Tie as tie
 
-abbrev invariant-loop : tie.invariant-loop
-invariant-loop levels table runs others numbers₀ k₀ k-end numbers k =
+abbrev invariant-loop-k : tie.invariant-loop-k
+invariant-loop-k levels table runs others numbers₀ k₀ k-end numbers k =
     (k ≤ length runs) × (k-end ≡ length runs) × Begun (numbers_of (plan levels table) runs others) 256 k numbers
 
-abbrev decreases-loop : tie.decreases-loop
-decreases-loop levels table runs others numbers₀ k₀ k-end numbers k = length runs - k
+abbrev decreases-loop-k : tie.decreases-loop-k
+decreases-loop-k levels table runs others numbers₀ k₀ k-end numbers k = length runs - k
 
-abbrev start : tie.At-loop invariant-loop decreases-loop → tie.Start invariant-loop decreases-loop
+abbrev start : tie.At-loop-k invariant-loop-k decreases-loop-k → tie.Start invariant-loop-k decreases-loop-k
 start l = l.before.before.before.before.before
 
 -- the run of a turn
-module _ (l : tie.At-loop invariant-loop decreases-loop) (h : l.loop.k < length (start l).args.runs.now) where
+module _ (l : tie.At-loop-k invariant-loop-k decreases-loop-k) (h : l.loop-k.k < length (start l).args.runs.now) where
   abbrev f : ℕ
-  f = get_or (start l).args.runs.now l.loop.k 0
+  f = get_or (start l).args.runs.now l.loop-k.k 0
 
   sound : Sound (plan (start l).args.levels.now (start l).args.table.now) (f ∷ [])
   sound =
       let a = (start l).args in
-      sound-run (plan a.levels.now a.table.now) a.runs.now (start l).pre.0 f (get_or-mem a.runs.now l.loop.k 0 h)
+      sound-run (plan a.levels.now a.table.now) a.runs.now (start l).requires.0 f (get_or-mem a.runs.now l.loop-k.k 0 h)
 
-loop-holds : tie.Need-loop-init invariant-loop decreases-loop
+loop-holds : tie.Need-loop-k-init invariant-loop-k decreases-loop-k
 loop-holds c = (omega arith, refl, refl)
 
-combination-requires : tie.Need-combination-requires invariant-loop decreases-loop
+combination-requires : tie.Need-combination-requires invariant-loop-k decreases-loop-k
 combination-requires c κs =
     let l = c.before.before in
     let S = (start l).requires.1 in
     (sound l (omega arith), (record { inside = S.inside; low = λ i m. (start l).requires.0.level-low i (S.inside i m) }, S.small))
 
-array-write-numbers : tie.Need-array-write-numbers invariant-loop decreases-loop
-array-write-numbers c = omega (arith, (start c.before.before.before).pre.0.few)
+array-write-numbers : tie.Need-bounds-numbers-k invariant-loop-k decreases-loop-k
+array-write-numbers c = omega (arith, (start c.before.before.before).requires.0.few)
 
-loop-again : tie.Need-loop-preserved invariant-loop decreases-loop
+loop-again : tie.Need-loop-k-preserved invariant-loop-k decreases-loop-k
 loop-again c =
     let l = c.before.before.before in
     let a = (start l).args in
@@ -53,24 +53,24 @@ loop-again c =
     let n = length-map rs number in (
       omega arith,
       refl,
-      begun-next (map number rs) 256 l.loop.k c.combination.result (omega (arith, n)) (omega (arith, n, (start l).requires.0.few)) l.loop.invariant.2
-          (c.combination.ensures ∙ sym (get_d_map number rs l.loop.k 0 0 (omega arith))),
+      begun-next (map number rs) 256 l.loop-k.k c.combination.result (omega (arith, n)) (omega (arith, n, (start l).requires.0.few)) l.loop-k.invariant.2
+          (c.combination.ensures ∙ sym (get_d_map number rs l.loop-k.k 0 0 (omega arith))),
     )
 
-returns : tie.Need-returns invariant-loop decreases-loop
+returns : tie.Need-returns invariant-loop-k decreases-loop-k
 returns c =
     let l = c.before in
     let a = (start l).args in
     let p = plan a.levels.now a.table.now in
     let n = length-map a.runs.now (λ f. number_of (level p) (entry p) f a.others.now) in
-    begun_all (numbers_of p a.runs.now a.others.now) 256 l.loop.k (omega (arith, n)) l.loop.invariant.2
+    begun_all (numbers_of p a.runs.now a.others.now) 256 l.loop-k.k (omega (arith, n)) l.loop-k.invariant.2
 
-pub numbers-of-spec : {M : Type 1} → statement M
-numbers-of-spec =
+pub numbers_of_spec : {M : Type 1} → statement M
+numbers_of_spec =
     tie.close
     (tie.spec
-    invariant-loop
-    decreases-loop
+    invariant-loop-k
+    decreases-loop-k
     loop-holds
     (λ c. omega arith)
     (λ c. omega arith)

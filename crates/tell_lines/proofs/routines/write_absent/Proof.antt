@@ -9,52 +9,52 @@ use Rattle.tell_lines.proofs.Sifted.{PutKept, line-put, line-passed}
 use Rattle.tell_lines.proofs.routines.write_absent.Statement.{statement}
 use Rattle.tell_lines.proofs.routines.write_absent.Tie as tie
 
-abbrev invariant-loop : tie.invariant-loop
-invariant-loop entries s room₀ at end₀ x₀ t8 room end x =
+abbrev invariant-loop-x : tie.invariant-loop-x
+invariant-loop-x entries s room₀ at end₀ x₀ t8 room end x =
     (x ≤ s) × (s ≤ most_groups) × PutKept (λ y. not (holds y entries)) (λ y. line_of (bytes "absent") (y ∷ [])) 28 x at room₀ end room
 
-abbrev decreases-loop : tie.decreases-loop
-decreases-loop entries s room₀ at end₀ x₀ t8 room end x = s - x
+abbrev decreases-loop-x : tie.decreases-loop-x
+decreases-loop-x entries s room₀ at end₀ x₀ t8 room end x = s - x
 
-loop-holds : tie.Need-loop-init invariant-loop decreases-loop
+loop-holds : tie.Need-loop-x-init invariant-loop-x decreases-loop-x
 loop-holds c =
-    let s = c.before.before in (omega arith, s.requires.0, put-none s.args.at s.args.room.now (omega (arith, s.requires.1)))
+    let s = c in (omega arith, s.requires.0, put-none s.args.at s.args.room.now (omega (arith, s.requires.1)))
 
-holds-requires : tie.Need-holds-requires invariant-loop decreases-loop
+holds-requires : tie.Need-holds-requires invariant-loop-x decreases-loop-x
 holds-requires c κs = tt
 
-write-line-requires : tie.Need-write-line-requires invariant-loop decreases-loop
+write-line-requires : tie.Need-write_line-end-requires invariant-loop-x decreases-loop-x
 write-line-requires c κs =
-    let l = c.before.before.before.before.before.before in
-    let P = l.loop.invariant.2 in
-    omega (arith, l.before.before.before.requires.1, P.behind, P.short, put-kept P)
+    let l = c in
+    let P = l.loop-x.invariant.2 in
+    omega (arith, l.requires.1, P.behind, P.short, put-kept P)
 
-loop-again : tie.Need-loop-preserved invariant-loop decreases-loop
+loop-again : tie.Need-loop-x-preserved invariant-loop-x decreases-loop-x
 loop-again c =
-    let l = c.before.before.before in
-    let e = l.before.before.before.args.entries.now in
+    let l = c in
+    let e = l.args.entries.now in
     let test : ℕ → Bool = λ y. not (holds y e) in
     let line : ℕ → List ℕ = λ y. line_of (bytes "absent") (y ∷ []) in
-    let asks = ap not (sym c.before.holds.ensures) in (
+    let asks = ap not (sym c.holds.ensures) in (
       omega arith,
-      l.loop.invariant.1,
-      ⊎_elim (λ w. rw (w.7, w.8) (line-put test line 28 l.loop.x (asks ∙ w.0.taken) l.loop.invariant.2 w.4.ensures))
-          (λ w. rw (w.1, w.2) (line-passed test line 28 l.loop.x (asks ∙ w.0.left) l.loop.invariant.2)) c.if1.branch,
+      l.loop-x.invariant.1,
+      ⊎_elim (λ w. rw (w.7, w.8) (line-put test line 28 l.loop-x.x (asks ∙ w.0.taken) l.loop-x.invariant.2 w.4.ensures))
+          (λ w. rw (w.1, w.2) (line-passed test line 28 l.loop-x.x (asks ∙ w.0.left) l.loop-x.invariant.2)) c.if-not-holds.branch,
     )
 
-returns : tie.Need-returns invariant-loop decreases-loop
+returns : tie.Need-returns invariant-loop-x decreases-loop-x
 returns c =
-    let l = c.before.loop in let e : l.x ≡ c.before.before.before.before.args.s = omega arith in rw (← e) l.invariant.2
+    let l = c.loop-x in let e : l.x ≡ c.args.s = omega arith in rw (← e) l.invariant.2
 
-same_length : tie.Need-same-length invariant-loop decreases-loop
+same_length : tie.Need-shape_of-room invariant-loop-x decreases-loop-x
 same_length c = put-kept (returns c)
 
-pub write-absent-spec : {M : Type 1} → statement M
-write-absent-spec =
+pub write_absent_spec : {M : Type 1} → statement M
+write_absent_spec =
     tie.close
     (tie.spec
-    invariant-loop
-    decreases-loop
+    invariant-loop-x
+    decreases-loop-x
     loop-holds
     holds-requires
     (λ c. refl)

@@ -9,68 +9,68 @@ use Rattle.tell_lines.specs.Parts.{pair_line_at}
 use Rattle.tell_lines.proofs.routines.write_pairs.Statement.{statement}
 use Rattle.tell_lines.proofs.routines.write_pairs.Tie as tie
 
-abbrev invariant-loop : tie.invariant-loop
-invariant-loop levels table column room₀ at left right end₀ k₀ t16 k-end room end k =
+abbrev invariant-loop-k : tie.invariant-loop-k
+invariant-loop-k levels table column room₀ at left right end₀ k₀ t16 k-end room end k =
     (k ≤ k-end) × PutEach (pair_line_at (plan levels table) column left right) 89 k at room₀ end room
 
-abbrev decreases-loop : tie.decreases-loop
-decreases-loop levels table column room₀ at left right end₀ k₀ t16 k-end room end k = k-end - k
+abbrev decreases-loop-k : tie.decreases-loop-k
+decreases-loop-k levels table column room₀ at left right end₀ k₀ t16 k-end room end k = k-end - k
 
-abbrev start : tie.At-loop invariant-loop decreases-loop → tie.Start invariant-loop decreases-loop
+abbrev start : tie.At-loop-k invariant-loop-k decreases-loop-k → tie.Start invariant-loop-k decreases-loop-k
 start l = l.before.before.before.before.before.before
 
-loop-holds : tie.Need-loop-init invariant-loop decreases-loop
+loop-holds : tie.Need-loop-k-init invariant-loop-k decreases-loop-k
 loop-holds c =
-    let s = c.before.before.before.before.before in (omega arith, put-none s.args.at s.args.room.now (omega (arith, s.requires.1)))
+    let s = c in (omega arith, put-none s.args.at s.args.room.now (omega (arith, s.requires.1)))
 
-array-read-f : tie.Need-array-read-f invariant-loop decreases-loop
-array-read-f c = omega (arith, (start c.before).pre.0.few)
+array-read-f : tie.Need-bounds-left-k invariant-loop-k decreases-loop-k
+array-read-f c = omega (arith, (start c.before).requires.0.few)
 
-array-read-g : tie.Need-array-read-g invariant-loop decreases-loop
-array-read-g c = omega (arith, (start c.before).pre.0.few)
+array-read-g : tie.Need-bounds-right-k invariant-loop-k decreases-loop-k
+array-read-g c = omega (arith, (start c.before).requires.0.few)
 
-entry-at-requires : tie.Need-entry-at-requires invariant-loop decreases-loop
-entry-at-requires c κs = (start c.before).pre.0.left-run c.before.loop.k (omega arith)
+entry-at-requires : tie.Need-entry_at-x-requires invariant-loop-k decreases-loop-k
+entry-at-requires c κs = (start c.before).requires.0.left-run c.loop-k.k (omega arith)
 
-entry-at-requires-2 : tie.Need-entry-at-requires-2 invariant-loop decreases-loop
-entry-at-requires-2 c κs = (start c.before.before).pre.0.right-run c.before.before.loop.k (omega arith)
+entry-at-requires-2 : tie.Need-entry_at-y-requires invariant-loop-k decreases-loop-k
+entry-at-requires-2 c κs = (start c.before.before).requires.0.right-run c.loop-k.k (omega arith)
 
-write-line-requires : tie.Need-write-line-requires invariant-loop decreases-loop
+write-line-requires : tie.Need-write_line-end-requires invariant-loop-k decreases-loop-k
 write-line-requires c κs =
-    let l = c.before.before.before.before.before.before in
-    let P = l.loop.invariant.1 in
+    let l = c.before.before.before.before.before.before.before in
+    let P = l.loop-k.invariant.1 in
     omega (arith, (start l).requires.1, P.behind, P.short, put-kept P)
 
-loop-again : tie.Need-loop-preserved invariant-loop decreases-loop
+loop-again : tie.Need-loop-k-preserved invariant-loop-k decreases-loop-k
 loop-again c =
-    let w = c.before.before in
-    let l = w.before.before.before.before.before.before.before in
+    let w = c in
+    let l = w.before.before.before.before.before.before.before.before.before.before in
     let a = (start l).args in
     let p = plan a.levels.now a.table.now in
-    let f = get_or a.joins.left l.loop.k 0 in
-    let g = get_or a.joins.right l.loop.k 0 in (
+    let f = get_or a.joins.left l.loop-k.k 0 in
+    let g = get_or a.joins.right l.loop-k.k 0 in (
       omega arith,
-      each-put (pair_line_at p a.column a.joins.left a.joins.right) 89 l.loop.k l.loop.invariant.1
-          (put_as (ap₂ (λ x y. line_of (bytes "pair") (f ∷ g ∷ x ∷ y ∷ [])) w.before.before.before.before.before.entry_at.ensures
-          w.before.before.before.before.entry-at2.ensures) (omega arith) w.write-line.ensures),
+      each-put (pair_line_at p a.column a.joins.left a.joins.right) 89 l.loop-k.k l.loop-k.invariant.1
+          (put_as (ap₂ (λ x y. line_of (bytes "pair") (f ∷ g ∷ x ∷ y ∷ [])) w.entry_at-x.ensures
+          w.entry_at-y.ensures) (omega arith) w.write_line-end.ensures),
     )
 
-returns : tie.Need-returns invariant-loop decreases-loop
+returns : tie.Need-returns invariant-loop-k decreases-loop-k
 returns c =
     let l = c.before in
     let a = (start l).args in
-    let e : l.loop.k ≡ a.joins.many = omega arith in
-    rw (← e) l.loop.invariant.1
+    let e : l.loop-k.k ≡ a.joins.many = omega arith in
+    rw (← e) l.loop-k.invariant.1
 
-same_length : tie.Need-same-length invariant-loop decreases-loop
+same_length : tie.Need-shape_of-room invariant-loop-k decreases-loop-k
 same_length c = put-kept (returns c)
 
-pub write-pairs-spec : {M : Type 1} → statement M
-write-pairs-spec =
+pub write_pairs_spec : {M : Type 1} → statement M
+write_pairs_spec =
     tie.close
     (tie.spec
-    invariant-loop
-    decreases-loop
+    invariant-loop-k
+    decreases-loop-k
     loop-holds
     (λ c. omega arith)
     array-read-f

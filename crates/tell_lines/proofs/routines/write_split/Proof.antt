@@ -1,5 +1,5 @@
 -- The numbers of the cells are those of the runs, and end at the product of the levels.
-use Rattle.exact.proofs.Ground.{◌≡◌, ◌∙◌, sym, ap, refl, arith, length, take, length-map, needs}
+use Rattle.exact.proofs.Ground.{◌≡◌, ◌∙◌, sym, ap, refl, arith, length, take, length-map, rules}
 use native.Mathlib.Nat.{min-eq_left}
 use Rattle.rules.specs.Plan.{Plan, plan, level, entry}
 use Rattle.counts.specs.Numbered.{product_of, number_of}
@@ -9,10 +9,10 @@ use Rattle.tell_lines.proofs.Rows.{row-front}
 use Rattle.tell_lines.proofs.routines.write_split.Statement.{statement}
 use Rattle.tell_lines.proofs.routines.write_split.Tie as tie
 
-abbrev start : tie.After-numbers-of → tie.Start
+abbrev start : tie.After-numbers_of-row → tie.Start
 start k = k.before.before.before.before.before.before.before
 
-module _ (k : tie.After-numbers-of) where
+module _ (k : tie.After-numbers_of-row) where
   abbrev given : Plan
   given = plan (start k).args.levels.now (start k).args.table.now
 
@@ -27,43 +27,43 @@ module _ (k : tie.After-numbers-of) where
   long : length (start k).args.runs.now ≡ length (take (length (start k).args.runs.now) k.Numbers-of.result)
   long = sym (ap length lent ∙ numbers)
 
-returns : tie.Need-returns
+returns : tie.Need-returns-then-tells
 returns c =
-    let s = c.before.before.before.before.before.before in
-    rw c.if1.true (put_as refl (omega arith) (put-none s.args.at s.args.room.now (omega (arith, s.requires.1))))
+    let s = c in
+    rw c.if-tells.true (put_as refl (omega arith) (put-none s.args.at s.args.room.now (omega (arith, s.requires.1))))
 
-product-of-requires : tie.Need-product-of-requires
+product-of-requires : tie.Need-product_of-end-requires
 product-of-requires c κs =
     let S = (start c).requires.0 in
     (record { inside = S.1.inside; low = λ i m. S.0.sound.level-low i (S.1.inside i m) }, omega arith)
 
-slice-aggregate-write-cells : tie.Need-slice-aggregate-write-cells
+slice-aggregate-write-cells : tie.Need-slice_bounds-write_cells-end
 slice-aggregate-write-cells c = long c.before.before
 
-write-cells-requires : tie.Need-write-cells-requires
+write-cells-requires : tie.Need-write_cells-requires
 write-cells-requires c κs =
     let k = c.before.before.before in (record { asked = (start k).requires.0.0; shown = (start k).requires.0.1; are = lent k }, (start k).requires.1)
 
-returns-2 : tie.Need-returns-2
+returns-2 : tie.Need-returns
 returns-2 c =
-    let w = c.before.before in
-    let q = w.before.before.before in
-    let k = q.before in
+    let w = c in
+    let q = w in
+    let k = q.before.before.before.before.before.before in
     let a = (start k).args in
-    let e : q.product-of.result ≡ product_of (level (given k)) a.others.now =
-    q.product-of.ensures ∙ min-eq_left (omega (arith, (start k).requires.0.1.small)) in
-    rw k.before.if1.false
-    (put_as (ap (cell_lines_to (given k) a.runs.now a.column a.others.now a.groups) e) (omega arith) w.write-cells.ensures)
+    let e : q.product_of-end.result ≡ product_of (level (given k)) a.others.now =
+    q.product_of-end.ensures ∙ min-eq_left (omega (arith, (start k).requires.0.1.small)) in
+    rw k.if-tells.false
+    (put_as (ap (cell_lines_to (given k) a.runs.now a.column a.others.now a.groups) e) (omega arith) w.write_cells.ensures)
 
-pub write-split-spec : {M : Type 1} → statement M
-write-split-spec =
+pub write_split_spec : {M : Type 1} → statement M
+write_split_spec =
     tie.close
     (tie.spec
     returns
-    (λ c κs. search needs)
+    (λ c κs. search rules)
     product-of-requires
-    (λ c. search needs)
+    (λ c. search rules)
     slice-aggregate-write-cells
     write-cells-requires
-    (λ c. search needs)
+    (λ c. search rules)
     returns-2)

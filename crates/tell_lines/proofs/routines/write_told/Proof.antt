@@ -1,28 +1,28 @@
 -- The line of the answer.
-use Rattle.exact.proofs.Ground.{refl, arith, needs}
+use Rattle.exact.proofs.Ground.{refl, arith, rules}
 use Rattle.text.proofs.Puts.{put_as}
 use Rattle.tell_lines.proofs.routines.write_told.Statement.{statement}
 use Rattle.tell_lines.proofs.routines.write_told.Tie as tie
 
-returns : tie.Need-returns
+returns : tie.Need-returns-then-tells
 returns c =
-    let w = c.before.before in rw w.before.before.before.before.if1.true (put_as refl (omega arith) w.write-line.ensures)
+    let w = c in rw w.if-tells.true (put_as refl (omega arith) w.write_line.ensures)
 
-returns-2 : tie.Need-returns-2
+returns-2 : tie.Need-returns
 returns-2 c =
-    let w = c.before.before in rw w.before.before.before.before.if1.false (put_as refl (omega arith) w.write-line2.ensures)
+    let w = c in rw w.if-tells.false (put_as refl (omega arith) w.write_line-2.ensures)
 
-pub write-told-spec : {M : Type 1} → statement M
-write-told-spec =
+pub write_told_spec : {M : Type 1} → statement M
+write_told_spec =
     tie.close
     (tie.spec
-    (λ c. search needs)
-    (λ c. search needs)
-    (λ c κs. search needs)
-    (λ c. search needs)
+    (λ c. search rules)
+    (λ c. search rules)
+    (λ c κs. search rules)
+    (λ c. search rules)
     returns
-    (λ c. search needs)
-    (λ c. search needs)
-    (λ c κs. search needs)
-    (λ c. search needs)
+    (λ c. search rules)
+    (λ c. search rules)
+    (λ c κs. search rules)
+    (λ c. search rules)
     returns-2)

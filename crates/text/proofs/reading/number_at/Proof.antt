@@ -1,5 +1,5 @@
 -- The two bytes from the place on are the first two of what is left of the text there.
-use Rattle.exact.proofs.Ground.{◌≡◌, ◌∙◌, ap, ap₂, ◌+◌, add-zero, get_or, get_or-drop, needs}
+use Rattle.exact.proofs.Ground.{◌≡◌, ◌∙◌, ap, ap₂, ◌+◌, add-zero, get_or, get_or-drop, rules}
 use Rattle.text.specs.Reading.{number_of, number_at}
 use Rattle.text.proofs.reading.number_at.Statement.{statement}
 use Rattle.text.proofs.reading.number_at.Tie as tie
@@ -7,12 +7,12 @@ use Rattle.text.proofs.reading.number_at.Tie as tie
 returns : tie.Need-returns
 unfolding number_at
 returns c =
-    let a = c.before.before.before.before.args in
+    let a = c.args in
     let text = a.text.now in
     let place : get_or text (a.at + 0) 0 ≡ get_or text a.at 0 = ap (λ k. get_or text k 0) (add-zero a.at) in
     rw (get_or-drop a.at text 0 0, get_or-drop a.at text 1 0, place)
-    (c.number_of_lem.ensures ∙ ap₂ number_of c.before.before.byte_at.ensures c.before.byte-at2.ensures)
+    (c.number_of_lem.ensures ∙ ap₂ number_of c.byte_at.ensures c.byte_at-2.ensures)
 
-pub number-at-spec : {M : Type 1} → statement M
-number-at-spec =
-    tie.close (tie.spec (λ c κs. search needs) (λ c. search needs) (λ c κs. search needs) (λ c κs. search needs) returns)
+pub number_at_spec : {M : Type 1} → statement M
+number_at_spec =
+    tie.close (tie.spec (λ c κs. search rules) (λ c. search rules) (λ c κs. search rules) (λ c κs. search rules) returns)

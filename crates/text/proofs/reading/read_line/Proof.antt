@@ -5,102 +5,102 @@ use Rattle.text.proofs.LineLoop.{SoFar, line-begins, room-left, room-length, lin
 use Rattle.text.proofs.reading.read_line.Statement.{statement}
 use Rattle.text.proofs.reading.read_line.Tie as tie
 
-abbrev invariant-loop : tie.invariant-loop
-invariant-loop text from numbers₀ stored at₀ count₀ numbers at count = SoFar text from numbers₀ stored at count numbers
+abbrev invariant-loop-number : tie.invariant-loop-number
+invariant-loop-number text from numbers₀ stored at₀ count₀ numbers at count = SoFar text from numbers₀ stored at count numbers
 
-abbrev decreases-loop : tie.decreases-loop
-decreases-loop text from numbers₀ stored at₀ count₀ numbers at count = length text - at
+abbrev decreases-loop-number : tie.decreases-loop-number
+decreases-loop-number text from numbers₀ stored at₀ count₀ numbers at count = length text - at
 
-loop-holds : tie.Need-loop-init invariant-loop decreases-loop
-loop-holds c = line-begins c.before.before.requires
+loop-holds : tie.Need-loop-number-init invariant-loop-number decreases-loop-number
+loop-holds c = line-begins c.requires
 
-number-at-requires : tie.Need-number-at-requires invariant-loop decreases-loop
-number-at-requires c κs = c.loop.invariant.roomy.inside
+number-at-requires : tie.Need-number_at-number-requires invariant-loop-number decreases-loop-number
+number-at-requires c κs = c.loop-number.invariant.roomy.inside
 
-same_length : tie.Need-same-length invariant-loop decreases-loop
-same_length c = room-length c.before.before.loop.invariant
+same_length : tie.Need-shape_of-numbers-then-size-eq0 invariant-loop-number decreases-loop-number
+same_length c = room-length c.loop-number.invariant
 
-returns : tie.Need-returns invariant-loop decreases-loop
+returns : tie.Need-returns-then-size-eq0 invariant-loop-number decreases-loop-number
 returns c =
-    let l = c.before.before.loop in
-    no_number l.invariant (ap (λ n. n.size) (sym c.before.number_at.ensures) ∙ c.if1.true) l.numbers
+    let l = c.loop-number in
+    no_number l.invariant (ap (λ n. n.size) (sym c.number_at-number.ensures) ∙ c.if-size-eq0.true) l.numbers
 
 -- a number is there, and ends in the text
-number-there : (c : tie.Else1 invariant-loop decreases-loop) → 0 < c.before.number_at.result.size
+number-there : (c : tie.Else-size-eq0 invariant-loop-number decreases-loop-number) → 0 < c.number_at-number.result.size
 number-there c = omega arith
 
-number-ends : (c : tie.Else1 invariant-loop decreases-loop) →
-    c.before.before.loop.at + c.before.number_at.result.size ≤ length c.before.before.before.before.before.args.text.now
+number-ends : (c : tie.Else-size-eq0 invariant-loop-number decreases-loop-number) →
+    c.loop-number.at + c.number_at-number.result.size ≤ length c.args.text.now
 number-ends c =
-    let l = c.before.before.loop in
-    let text = c.before.before.before.before.before.args.text.now in
-    let e = c.before.number_at.ensures in
+    let l = c.loop-number in
+    let text = c.args.text.now in
+    let e = c.number_at-number.ensures in
     rw e (number-inside text l.at l.invariant.roomy.inside (rw (← e) (number-there c)))
 
-add-byte-at : tie.Need-overflow-add-byte-at invariant-loop decreases-loop
+add-byte-at : tie.Need-overflow_add-at invariant-loop-number decreases-loop-number
 add-byte-at c = omega (arith, number-ends c)
 
-byte-at-requires : tie.Need-byte-at-requires invariant-loop decreases-loop
+byte-at-requires : tie.Need-byte_at-after-requires invariant-loop-number decreases-loop-number
 byte-at-requires c κs = tt
 
-slice-write-numbers : tie.Need-slice-write-numbers invariant-loop decreases-loop
+slice-write-numbers : tie.Need-bounds-numbers-count invariant-loop-number decreases-loop-number
 slice-write-numbers c =
-    let l = c.before.before.before.loop in
+    let l = c.loop-number in
     rw (room-length l.invariant) (room-left l.invariant (omega (arith, number-there c.before, number-ends c.before)))
 
-add-count : tie.Need-overflow-add-count invariant-loop decreases-loop
+add-count : tie.Need-overflow_add-count invariant-loop-number decreases-loop-number
 add-count c = omega (arith, slice-write-numbers c)
 
-add_at : tie.Need-overflow-add-at invariant-loop decreases-loop
+add_at : tie.Need-overflow_add-at-in-loop-number invariant-loop-number decreases-loop-number
 add_at c = omega (arith, number-ends c.before)
 
-add-at-2 : tie.Need-overflow-add-at-2 invariant-loop decreases-loop
+add-at-2 : tie.Need-overflow_add-at-in-loop-number-2 invariant-loop-number decreases-loop-number
 add-at-2 c = omega (arith, number-ends c.before)
 
-stored-length : (c : tie.After-byte-at invariant-loop decreases-loop) (v : ℕ) →
-    length (set c.before.before.before.loop.numbers c.before.before.before.loop.count v)
-    ≡ length c.before.before.before.before.before.before.args.numbers.now
+stored-length : (c : tie.After-byte_at-after invariant-loop-number decreases-loop-number) (v : ℕ) →
+    length (set c.loop-number.numbers c.loop-number.count v)
+    ≡ length c.args.numbers.now
 stored-length c v =
-    let l = c.before.before.before.loop in
+    let l = c.loop-number in
     length-set l.numbers l.count v ∙ room-length l.invariant
 
-same-length-2 : tie.Need-same-length-2 invariant-loop decreases-loop
-same-length-2 c = stored-length c.before c.before.before.before.number_at.result.value
+same-length-2 : tie.Need-shape_of-numbers-then-after-eq-LINE_FEED invariant-loop-number decreases-loop-number
+same-length-2 c = stored-length c.before c.number_at-number.result.value
 
-returns-2 : tie.Need-returns-2 invariant-loop decreases-loop
+returns-2 : tie.Need-returns-then-after-eq-LINE_FEED invariant-loop-number decreases-loop-number
 returns-2 c =
-    let n = c.before.before.before in
-    line-ends n.before.loop.invariant (sym n.number_at.ensures) (number-there c.before.before)
-    (sym c.before.byte_at.ensures ∙ c.if2.true)
+    let n = c in
+    line-ends n.loop-number.invariant (sym n.number_at-number.ensures) (number-there c.before.before)
+    (sym c.byte_at-after.ensures ∙ c.if-after-eq-LINE_FEED.true)
 
-same-length-3 : tie.Need-same-length-3 invariant-loop decreases-loop
-same-length-3 c = stored-length c.before.before c.before.before.before.before.number_at.result.value
+same-length-3 : tie.Need-shape_of-numbers-then-after-ne-COMMA invariant-loop-number decreases-loop-number
+same-length-3 c = stored-length c.before.before c.number_at-number.result.value
 
-returns-3 : tie.Need-returns-3 invariant-loop decreases-loop
+returns-3 : tie.Need-returns-then-after-ne-COMMA invariant-loop-number decreases-loop-number
 returns-3 c =
-    let b = c.before.before in
-    let n = b.before.before in
-    let l = n.before.loop in
-    no-separator l.invariant n.number_at.result.size (ap (λ r. r.size) (sym n.number_at.ensures))
-    (λ e. c.if3.true (b.byte_at.ensures ∙ e)) (λ e. c.before.if2.false (b.byte_at.ensures ∙ e))
-    (set l.numbers l.count n.number_at.result.value)
+    let b = c in
+    let n = b in
+    let l = n.loop-number in
+    no-separator l.invariant n.number_at-number.result.size (ap (λ r. r.size) (sym n.number_at-number.ensures))
+    (λ e. c.if-after-ne-COMMA.true (b.byte_at-after.ensures ∙ e)) (λ e. c.if-after-eq-LINE_FEED.false (b.byte_at-after.ensures ∙ e))
+    (set l.numbers l.count n.number_at-number.result.value)
 
-loop-again : tie.Need-loop-preserved invariant-loop decreases-loop
+loop-again : tie.Need-loop-number-preserved invariant-loop-number decreases-loop-number
 loop-again c =
-    let b = c.before.before in
-    let n = b.before.before in
-    line-goes-on n.before.loop.invariant (sym n.number_at.ensures) (number-there b.before)
-    (sym b.byte_at.ensures ∙ c.if3.false)
+    let b = c in
+    let n = b in
+    line-goes-on n.loop-number.invariant (sym n.number_at-number.ensures) (number-there b.before.before.before)
+    (sym b.byte_at-after.ensures ∙ c.if-after-ne-COMMA.false)
 
-loop-less : tie.Need-loop-smaller invariant-loop decreases-loop
+loop-less : tie.Need-loop-number-smaller invariant-loop-number decreases-loop-number
 loop-less c = omega (arith, number-ends c.before.before.before, (loop-again c).roomy.inside)
 
-pub read-line-spec : {M : Type 1} → statement M
-read-line-spec =
+pub read_line_spec : {M : Type 1} → statement M
+read_line_spec =
     tie.close
     (tie.spec
-    invariant-loop
-    decreases-loop
+    invariant-loop-number
+    decreases-loop-number
     loop-holds
     number-at-requires
     same_length

@@ -18,14 +18,14 @@ blank = replicate most_runs (record { sums = zeros })
 abbrev found : tie.Start → List Sums
 found s = rows_by_run (plan s.args.levels.now s.args.table.now) s.args.runs.now
 
-returns : tie.Need-returns
-returns c = answer-refused make blank (found c.before.before.before.before.before) refl c.if1.true
+returns : tie.Need-returns-then-refused-ne0
+returns c = answer-refused make blank (found c.before.before.before.before.before) refl c.if-refused-ne0.true
 
 rows-requires : tie.Need-rows-requires
-rows-requires c κs = c.before.before.before.before.before.requires c.if1.false
+rows-requires c κs = c.requires c.if-refused-ne0.false
 
-returns-2 : tie.Need-returns-2
-returns-2 c = rw c.rows.ensures (answer-accepted make blank (found c.before.before.before.before.before.before) refl c.before.if1.false)
+returns-2 : tie.Need-returns
+returns-2 c = rw c.rows.ensures (answer-accepted make blank (found c.before.before.before.before.before.before) refl c.if-refused-ne0.false)
 
-pub row-sums-answer-spec : {M : Type 1} → statement M
-row-sums-answer-spec = tie.close (tie.spec returns rows-requires returns-2)
+pub row_sums_answer_spec : {M : Type 1} → statement M
+row_sums_answer_spec = tie.close (tie.spec returns rows-requires returns-2)

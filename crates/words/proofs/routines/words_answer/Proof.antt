@@ -14,15 +14,15 @@ make r x = record { refused = r; words = x }
 abbrev found : tie.Start → List ℤ
 found s = let p = plan s.args.levels.now s.args.table.now in word_list p (every_run p)
 
-returns : tie.Need-returns
-returns c = answer-refused make zeros (found c.before.before.before.before) refl c.if1.true
+returns : tie.Need-returns-then-refused-ne0
+returns c = answer-refused make zeros (found c.before.before.before.before) refl c.if-refused-ne0.true
 
-words-of-plan-requires : tie.Need-words-of-plan-requires
-words-of-plan-requires c κs = c.before.before.before.before.requires c.if1.false
+words-of-plan-requires : tie.Need-words_of_plan-requires
+words-of-plan-requires c κs = c.requires c.if-refused-ne0.false
 
-returns-2 : tie.Need-returns-2
+returns-2 : tie.Need-returns
 returns-2 c =
-    rw c.words-of-plan.ensures (answer-accepted make zeros (found c.before.before.before.before.before) refl c.before.if1.false)
+    rw c.words_of_plan.ensures (answer-accepted make zeros (found c.before.before.before.before.before) refl c.if-refused-ne0.false)
 
-pub words-answer-spec : {M : Type 1} → statement M
-words-answer-spec = tie.close (tie.spec returns words-of-plan-requires returns-2)
+pub words_answer_spec : {M : Type 1} → statement M
+words_answer_spec = tie.close (tie.spec returns words-of-plan-requires returns-2)

@@ -1,5 +1,5 @@
 -- `words::routines::words_from` meets its contract: both orders of each pair, and each run paired with itself.
-use Rattle.exact.proofs.Ground.{◌≡◌, ◌∙◌, sym, ap, ap₂, ◌≤◌, ◌^◌, arith, needs}
+use Rattle.exact.proofs.Ground.{◌≡◌, ◌∙◌, sym, ap, ap₂, ◌≤◌, ◌^◌, arith, rules}
 use Rattle.exact.proofs.Numbers.{length_from}
 use Rattle.rules.specs.Plan.{Plan, plan, runs, every_run}
 use Rattle.plan.specs.Good.{Sound}
@@ -14,7 +14,7 @@ use Rattle.words.proofs.routines.words_from.Statement.{statement}
 use Rattle.words.proofs.routines.words_from.Tie as tie
 
 -- the plan, its runs, and E_j for each length: of the levels alone
-module _ (d : tie.After-diagonal) where
+module _ (d : tie.After-diagonal-own) where
   abbrev start : tie.Start
   start = d.before.before.before
 
@@ -22,18 +22,18 @@ module _ (d : tie.After-diagonal) where
   given = plan start.args.levels.now start.args.table.now
 
   sound : Sound given (every_run given)
-  sound = good-sound given start.pre.0
+  sound = good-sound given start.requires.0
 
-  own : d.diagonal.result ≡ diagonal_list given
+  own : d.diagonal-own.result ≡ diagonal_list given
   unfolding diagonal_list
-  own = d.diagonal.ensures
+  own = d.diagonal-own.ensures
 
-diagonal-requires : tie.Need-diagonal-requires
+diagonal-requires : tie.Need-diagonal-own-requires
 diagonal-requires c κs =
-    let s = c.before.before in let p = plan s.args.levels.now s.args.table.now in
+    let s = c in let p = plan s.args.levels.now s.args.table.now in
     sound-levels p (every_run p) (good-sound p s.requires.0)
 
-both-orders-requires : tie.Need-both-orders-requires
+both-orders-requires : tie.Need-both_orders-requires
 both-orders-requires c κs =
     let d = c.before.before in let p = given d in (
       rw (start d).requires.1 (once-row p (every_run p) (sound d) 0),
@@ -43,17 +43,17 @@ both-orders-requires c κs =
 returns : tie.Need-returns
 returns c =
     let d = c.before.before.before in let p = given d in
-    c.both-orders.ensures
+    c.both_orders.ensures
     ∙ ap₂ (both_orders (runs p)) (own d) (start d).requires.1
     ∙ ap (λ n. both_orders n (diagonal_list p) (once_list p (every_run p))) (sym (length_from 0 (runs p)))
     ∙ word-once p (every_run p)
 
-pub words-from-spec : {M : Type 1} → statement M
-words-from-spec =
+pub words_from_spec : {M : Type 1} → statement M
+words_from_spec =
     tie.close
     (tie.spec
-    (λ c. search needs)
+    (λ c. search rules)
     diagonal-requires
-    (λ c. search needs)
+    (λ c. search rules)
     both-orders-requires
     returns)

@@ -7,93 +7,93 @@ use Rattle.writer.proofs.LineWriting.{later_to, two_digits, put-number, put-late
 use Rattle.writer.proofs.routines.write_line.Statement.{statement}
 use Rattle.writer.proofs.routines.write_line.Tie as tie
 
-abbrev invariant-loop : tie.invariant-loop
-invariant-loop numbers room₀ at end₀ i₀ i-end room end i =
+abbrev invariant-loop-i : tie.invariant-loop-i
+invariant-loop-i numbers room₀ at end₀ i₀ i-end room end i =
     (1 ≤ i) × (i ≤ length numbers) × Put (later_to i numbers) (3 * (i - 1)) end₀ room₀ end room
 
-abbrev decreases-loop : tie.decreases-loop
-decreases-loop numbers room₀ at end₀ i₀ i-end room end i = length numbers - i
+abbrev decreases-loop-i : tie.decreases-loop-i
+decreases-loop-i numbers room₀ at end₀ i₀ i-end room end i = length numbers - i
 
-shared-slice-read-write-number : tie.Need-shared-slice-read-write-number invariant-loop decreases-loop
-shared-slice-read-write-number c = c.before.before.before.requires.0.some
+shared-slice-read-write-number : tie.Need-bounds-numbers-0 invariant-loop-i decreases-loop-i
+shared-slice-read-write-number c = c.requires.0.some
 
-cast-write-number : tie.Need-overflow-cast-write-number invariant-loop decreases-loop
-cast-write-number c = let s = c.before.before.before in omega (arith, s.requires.0.small 0 s.requires.0.some)
+cast-write-number : tie.Need-overflow_cast-numbers invariant-loop-i decreases-loop-i
+cast-write-number c = let s = c in omega (arith, s.requires.0.small 0 s.requires.0.some)
 
-write-number-requires : tie.Need-write-number-requires invariant-loop decreases-loop
+write-number-requires : tie.Need-write_number-end-requires invariant-loop-i decreases-loop-i
 write-number-requires c κs =
-    let s = c.before.before.before.before in
+    let s = c in
     omega (arith, s.requires.1, s.requires.0.some, two_digits s.requires.0 0 s.requires.0.some)
 
-abbrev start : tie.After-slice-known2 invariant-loop decreases-loop → tie.Start invariant-loop decreases-loop
+abbrev start : tie.After-slice_known-2-1 invariant-loop-i decreases-loop-i → tie.Start invariant-loop-i decreases-loop-i
 start c = c.before.before.before.before.before.before.before
 
-first : (c : tie.After-slice-known2 invariant-loop decreases-loop) →
-    let w = c.before.before.write-number in
+first : (c : tie.After-slice_known-2-1 invariant-loop-i decreases-loop-i) →
+    let w = c.write_number-end in
     let a = (start c).args in
-    Put (decimal (get_or a.numbers.now 0 0)) 2 a.at a.room.now w.result w.new.1.0
+    Put (decimal (get_or a.numbers.now 0 0)) 2 a.at a.room.now w.result w.new.room
 first c =
-    let w = c.before.before.write-number in
+    let w = c.write_number-end in
     let p = (start c).requires in
     put-number p.0 0 p.0.some (omega (arith, p.1, p.0.some)) w.ensures.0 w.ensures.1
 
-loop-holds : tie.Need-loop-init invariant-loop decreases-loop
+loop-holds : tie.Need-loop-i-init invariant-loop-i decreases-loop-i
 loop-holds c =
-    let w = c.before.before.write-number in
-    (omega arith, (start c).requires.0.some, put-none w.result w.new.1.0 (omega (arith, (first c).ranges, (first c).behind, put-kept (first c))))
+    let w = c.write_number-end in
+    (omega arith, (start c).requires.0.some, put-none w.result w.new.room (omega (arith, (first c).ranges, (first c).behind, put-kept (first c))))
 
 -- the room that is left at a turn
-left : (c : tie.After-slice-known2 invariant-loop decreases-loop) (i : ℕ) {end : ℕ} {room : List ℕ} →
+left : (c : tie.After-slice_known-2-1 invariant-loop-i decreases-loop-i) (i : ℕ) {end : ℕ} {room : List ℕ} →
     let xs = (start c).args.numbers.now in
-    let w = c.before.before.write-number in
-    (1 ≤ i) × (i ≤ length xs) × Put (later_to i xs) (3 * (i - 1)) w.result w.new.1.0 end room → end + 3 * (length xs - i) + 1 ≤ length room
+    let w = c.write_number-end in
+    (1 ≤ i) × (i ≤ length xs) × Put (later_to i xs) (3 * (i - 1)) w.result w.new.room end room → end + 3 * (length xs - i) + 1 ≤ length room
 left c i inv = line-left (start c).args.numbers.now i (start c).requires.1 inv.0 inv.1 (first c) inv.2
 
-slice-write-room : tie.Need-slice-write-room invariant-loop decreases-loop
-slice-write-room c = omega (arith, left c.before.before c.before.loop.i c.before.loop.invariant)
+slice-write-room : tie.Need-bounds-room-end invariant-loop-i decreases-loop-i
+slice-write-room c = omega (arith, left c.before.before c.loop-i.i c.loop-i.invariant)
 
-cast-write-number-2 : tie.Need-overflow-cast-write-number-2 invariant-loop decreases-loop
-cast-write-number-2 c = let l = c.before.before in omega (arith, (start l.before).pre.0.small l.loop.i (omega arith))
+cast-write-number-2 : tie.Need-overflow_cast-numbers-in-loop-i invariant-loop-i decreases-loop-i
+cast-write-number-2 c = let l = c in omega (arith, (start l.before.before.before).requires.0.small l.loop-i.i (omega arith))
 
-add-write-number : tie.Need-overflow-add-write-number invariant-loop decreases-loop
-add-write-number c = let l = c.before.before.before in omega (arith, left l.before l.loop.i l.loop.invariant)
+add-write-number : tie.Need-overflow_add-end invariant-loop-i decreases-loop-i
+add-write-number c = let l = c in omega (arith, left l.before.before.before.before l.loop-i.i l.loop-i.invariant)
 
-write-number-requires-2 : tie.Need-write-number-requires-2 invariant-loop decreases-loop
+write-number-requires-2 : tie.Need-write_number-end-requires-in-loop-i invariant-loop-i decreases-loop-i
 write-number-requires-2 c κs =
-    let l = c.before.before.before in
-    let k = l.loop in
-    omega (arith, left l.before k.i k.invariant, two_digits (start l.before).pre.0 k.i (omega arith), length-set k.room k.end 44)
+    let l = c in
+    let k = l.loop-i in
+    omega (arith, left l.before.before.before.before k.i k.invariant, two_digits (start l.before.before.before.before).requires.0 k.i (omega arith), length-set k.room k.end 44)
 
-loop-again : tie.Need-loop-preserved invariant-loop decreases-loop
+loop-again : tie.Need-loop-i-preserved invariant-loop-i decreases-loop-i
 loop-again c =
-    let w = c.before.before.write-number2 in
-    let l = c.before.before.before.before.before.before in
-    let k = l.loop in
-    let S = (start l.before).pre.0 in
-    (omega arith, omega arith, put-later S k.i k.invariant.0 (omega arith) k.invariant.2 (omega (arith, left l.before k.i k.invariant)) w.ensures.0 w.ensures.1)
+    let w = c.write_number-end-in-loop-i in
+    let l = c in
+    let k = l.loop-i in
+    let S = (start l.before.before.before.before.before.before.before).requires.0 in
+    (omega arith, omega arith, put-later S k.i k.invariant.0 (omega arith) k.invariant.2 (omega (arith, left l.before.before.before.before.before.before.before k.i k.invariant)) w.ensures.0 w.ensures.1)
 
-slice-write-room-2 : tie.Need-slice-write-room-2 invariant-loop decreases-loop
-slice-write-room-2 c = omega (arith, left c.before.before c.before.loop.i c.before.loop.invariant)
+slice-write-room-2 : tie.Need-bounds-room-end-2 invariant-loop-i decreases-loop-i
+slice-write-room-2 c = omega (arith, left c.before.before c.loop-i.i c.loop-i.invariant)
 
-add-result : tie.Need-overflow-add-result invariant-loop decreases-loop
-add-result c = omega (arith, left c.before.before c.before.loop.i c.before.loop.invariant)
+add-result : tie.Need-overflow_add-result invariant-loop-i decreases-loop-i
+add-result c = omega (arith, left c.before.before c.loop-i.i c.loop-i.invariant)
 
-returns : tie.Need-returns invariant-loop decreases-loop
+returns : tie.Need-returns invariant-loop-i decreases-loop-i
 returns c =
-    let k = c.before.loop in
+    let k = c.loop-i in
     let b = c.before.before in
     let e : k.i ≡ length (start b).args.numbers.now = omega (arith, k.invariant.1) in
     put-line (start b).requires.0 (first b) (rw e at k.invariant.2) (omega (arith, left b k.i k.invariant))
 
-same_length : tie.Need-same-length invariant-loop decreases-loop
+same_length : tie.Need-shape_of-room invariant-loop-i decreases-loop-i
 same_length c = put-kept (returns c)
 
-pub write-line-spec : {M : Type 1} → statement M
-write-line-spec =
+pub write_line_spec : {M : Type 1} → statement M
+write_line_spec =
     tie.close
     (tie.spec
-    invariant-loop
-    decreases-loop
+    invariant-loop-i
+    decreases-loop-i
     shared-slice-read-write-number
     cast-write-number
     write-number-requires
