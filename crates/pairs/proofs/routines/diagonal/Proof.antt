@@ -60,11 +60,11 @@ loop-again c =
 part-add-to-end : tie.Need-slice_bounds-add_to-end invariant-loop-i decreases-loop-i
 part-add-to-end c =
     let l = c in
-    omega (arith, ap length l.loop-i.invariant.2, length_so_far (less_one (given l.before.before)) l.loop-i.i)
+    omega (arith, ap length l.loop-i.invariant.2, length_so_far (less_one (given l.before.before.before.before)) l.loop-i.i)
 
 -- the sums from length 1 on
 longer : (c : tie.After-loop-i invariant-loop-i decreases-loop-i) → let l = c in
-    take 24 (drop 1 l.loop-i.sums) ≡ diagonal_list (given l.before.before)
+    take 24 (drop 1 l.loop-i.sums) ≡ diagonal_list (given l.before.before.before)
 longer c =
     let l = c in let p = given l.before.before.before in
     let e : l.loop-i.i ≡ columns p = omega arith in
