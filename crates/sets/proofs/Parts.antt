@@ -33,9 +33,9 @@ module _ {A : Type 0} where
 
   pub part-trans : {I J K : List A} → Part I J → Part J K → Part I K
   part-trans p none = p
-  part-trans p (skip q) = skip (part-trans p q)
-  part-trans (skip p) (keep q) = skip (part-trans p q)
-  part-trans (keep p) (keep q) = keep (part-trans p q)
+  part-trans {I = I} p (skip q) = skip (part-trans {I = I} p q)
+  part-trans {I = I} (skip p) (keep q) = skip (part-trans {I = I} p q)
+  part-trans (keep {x = x} {I = I} p) (keep q) = keep (part-trans {I = I} p q)
 
   pub part-mem : {I K : List A} → Part I K → (x : A) → Memᴰ x I → Memᴰ x K
   part-mem none x m = m

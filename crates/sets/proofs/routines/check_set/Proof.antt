@@ -1,5 +1,5 @@
 -- `sets::routines::check_set` meets its contract: a refusal is that of f, or else of the columns.
-use Rattle.exact.proofs.Ground.{List, [], ◌∷◌, ◌≡◌, ◌∙◌, sym, ap₂, rules, ne_eqb, eq-eqb, not-true, not-false}
+use Rattle.exact.proofs.Ground.{List, [], ◌∷◌, ◌≡◌, ◌∙◌, sym, ap₂, rules, ne_eqb, eq-eqb}
 use Rattle.rules.specs.declared.Refusal.{Refusal}
 use Rattle.rules.specs.Refusals.{Check, refusal, or_else, plain, bad_size, bad_set}
 use Rattle.rules.proofs.Order.{or-in-turn}
@@ -27,12 +27,12 @@ returns-2 c =
     let t = c in
     let i = t in
     wrong i.before.before.before.before.before c.or_else-then-not-is_set.ensures c.plain-then-not-is_set.ensures
-    (rw (eq-eqb _ _ i.if-columns-f.false, ← i.is_set.ensures, not-true i.is_set.result t.if-not-is_set.true))
+    (rw (eq-eqb _ _ i.if-columns-f.false, ← i.is_set.ensures, t.if-not-is_set.true))
 
 returns-3 : tie.Need-returns
 returns-3 c =
     let i = c in
-    i.check_size-size.ensures ∙ rw (eq-eqb _ _ i.if-columns-f.false, ← i.is_set.ensures, not-false i.is_set.result c.if-not-is_set.false)
+    i.check_size-size.ensures ∙ rw (eq-eqb _ _ i.if-columns-f.false, ← i.is_set.ensures, c.if-not-is_set.false)
 
 pub check_set_spec : {M : Type 1} → statement M
 check_set_spec =

@@ -1,7 +1,8 @@
 -- `sets::routines::place` meets its contract: the sets passed so far, and the place of the columns left among those left, are the set's place.
-use Rattle.exact.proofs.Ground.{⊎_elim, ◌≤◌, ◌<◌, ◌-◌, ◌+◌, arith, length, rules}
+use Rattle.exact.proofs.Ground.{◌≤◌, ◌<◌, ◌-◌, ◌+◌, arith, length, rules}
 use Rattle.sets.proofs.Walks.{Placing, set-size, placing-start, placing-fits, placing-end, column-left, placing-keep, placing-skip}
 use Rattle.sets.proofs.routines.place.Statement.{statement}
+use Rattle.sets.proofs.routines.place.Lts.{then-columns-taken, else-columns-taken}
 use Rattle.sets.proofs.routines.place.Tie as tie
 
 abbrev invariant-loop-taken : tie.invariant-loop-taken
@@ -76,10 +77,12 @@ loop-again c =
     let t = c in
     let l = t.loop-taken in
     let a = t.args in
-    ⊎_elim
-    (λ w. rw (w.1, w.2) (placing-keep a.m a.columns.now l.column l.taken l.place l.invariant t.loop-taken-test.true w.0.taken))
-    (λ w. rw (w.3, w.4) (skipped (record { before = record { before = record { before = c.before; if1 = w.0 }; binomials = w.1 }; looked-up = w.2 })))
-    c.if-columns-taken.branch
+    elim c.if-columns-taken.branch [
+      then-columns-taken w ↦ rw (w.place-is, w.taken-is)
+          (placing-keep a.m a.columns.now l.column l.taken l.place l.invariant t.loop-taken-test.true w.if-columns-taken.true)
+    | else-columns-taken w ↦ rw (w.place-is, w.taken-is, w.looked_up-place.ensures)
+          (placing-skip a.m a.columns.now l.column l.taken l.place l.invariant t.loop-taken-test.true w.if-columns-taken.false)
+    ]
 
 returns : tie.Need-returns invariant-loop-taken decreases-loop-taken
 returns c =

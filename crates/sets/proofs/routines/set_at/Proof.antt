@@ -1,7 +1,8 @@
 -- `sets::routines::set_at` meets its contract: the columns written so far, then the set at place `left` of the columns left, are the set at place k.
-use Rattle.exact.proofs.Ground.{⊎_elim, ◌≤◌, ◌<◌, ◌-◌, arith, rules}
+use Rattle.exact.proofs.Ground.{◌≤◌, ◌<◌, ◌-◌, arith, rules}
 use Rattle.sets.proofs.Walks.{Choosing, choosing-start, choosing-end, place-left, choosing-keep, choosing-skip}
 use Rattle.sets.proofs.routines.set_at.Statement.{statement}
+use Rattle.sets.proofs.routines.set_at.Lts.{then-left-having, else-left-having}
 use Rattle.sets.proofs.routines.set_at.Tie as tie
 
 abbrev invariant-loop-taken : tie.invariant-loop-taken
@@ -59,13 +60,13 @@ loop-again c =
     let l = t.loop-taken in
     let a = t.args in
     let b = c.looked_up-having.ensures in
-    ⊎_elim
-    (λ w. rw (w.1, w.2, w.3)
-    (choosing-keep a.m a.j a.k l.column l.taken l.left l.columns l.invariant t.loop-taken-test.true
-    (omega (arith, within t)) (rw b at w.0.taken)))
-    (λ w. rw (w.1, w.2, w.3, b)
-    (choosing-skip a.m a.j a.k l.column l.taken l.left l.columns l.invariant t.loop-taken-test.true (rw b at w.0.left)))
-    c.if-left-having.branch
+    elim c.if-left-having.branch [
+      then-left-having w ↦ rw (w.columns-is, w.left-is, w.taken-is)
+          (choosing-keep a.m a.j a.k l.column l.taken l.left l.columns l.invariant t.loop-taken-test.true
+          (omega (arith, within t)) (rw b at w.if-left-having.true))
+    | else-left-having w ↦ rw (w.columns-is, w.left-is, w.taken-is, b)
+          (choosing-skip a.m a.j a.k l.column l.taken l.left l.columns l.invariant t.loop-taken-test.true (rw b at w.if-left-having.false))
+    ]
 
 returns : tie.Need-returns invariant-loop-taken decreases-loop-taken
 returns c =
