@@ -43,7 +43,7 @@ call-held (held p marks G size left) c =
 
 pub after-held : {h : Held} → IsHeld h → (cs : List Call) → IsHeld (after h cs)
 after-held H [] = H
-after-held H (c ∷ cs) = after-held (call-held H c) cs
+after-held {h = h} H (c ∷ cs) = after-held {h = (call_answer h c).held} (call-held H c) cs
 
 -- ---- the words held are those of the runs now standing
 
@@ -82,7 +82,7 @@ call-plan (held p marks G size left) c =
 
 pub plan_after : {h : Held} → IsHeld h → (cs : List Call) → plan_in (after h cs) ≡ plan_in h
 plan_after H [] = refl
-plan_after H (c ∷ cs) = plan_after (call-held H c) cs ∙ call-plan H c
+plan_after {h = h} H (c ∷ cs) = plan_after {h = (call_answer h c).held} (call-held H c) cs ∙ call-plan H c
 
 -- the runs that stand tell the marks
 marks-by-standing : (l k : List Bool) → length l ≡ length k → standing l ≡ standing k → l ≡ k
@@ -217,6 +217,6 @@ stands-then b (some c) d = refl
 pub stands-by : {h : Held} → IsHeld h → (cs : List Call) (f : ℕ) → mark_of (after h cs) f ≡ stands_by (mark_of h f) (last_of h cs f)
 stands-by H [] f = refl
 stands-by {h} H (c ∷ cs) f =
-    stands-by (call-held H c) cs f
+    stands-by {h = (call_answer h c).held} (call-held H c) cs f
     ∙ ap (λ b. stands_by b (last_of (call_answer h c).held cs f)) (mark-step h c f (in-room H c))
     ∙ stands-then (mark_of h f) (last_of (call_answer h c).held cs f) (own h c f)

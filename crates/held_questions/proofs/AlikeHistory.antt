@@ -58,16 +58,16 @@ module _ {D : List ℕ} {h k : Held} (A : AlikeBut D h k) where
 pub alike-history : {D : List ℕ} {h k : Held} → AlikeBut D h k → IsHeld h → IsHeld k → (cs : List Call) → ReinstateNone D cs →
     AlikeBut D (after h cs) (after k cs)
 alike-history A H K [] none = A
-alike-history A H K (c ∷ cs) none =
-    alike-history (alike-call A H K c (λ f d e. none f d (mem-head e))) (call-held H c) (call-held K c) cs (λ f d m. none f d (mem-tail m))
+alike-history {h = h} {k = k} A H K (c ∷ cs) none =
+    alike-history {h = (call_answer h c).held} {k = (call_answer k c).held} (alike-call A H K c (λ f d e. none f d (mem-head e))) (call-held H c) (call-held K c) cs (λ f d m. none f d (mem-tail m))
 
 -- every call was refused of both or of neither, by the same refusal
 pub alike-refusals : {D : List ℕ} {h k : Held} → AlikeBut D h k → IsHeld h → IsHeld k → (cs : List Call) → ReinstateNone D cs →
     refusals h cs ≡ refusals k cs
 alike-refusals A H K [] none = refl
-alike-refusals A H K (c ∷ cs) none =
+alike-refusals {h = h} {k = k} A H K (c ∷ cs) none =
     ap₂ (λ r rest. r ∷ rest) (call-alike A c)
-    (alike-refusals (alike-call A H K c (λ f d e. none f d (mem-head e))) (call-held H c) (call-held K c) cs (λ f d m. none f d (mem-tail m)))
+    (alike-refusals {h = (call_answer h c).held} {k = (call_answer k c).held} (alike-call A H K c (λ f d e. none f d (mem-head e))) (call-held H c) (call-held K c) cs (λ f d m. none f d (mem-tail m)))
 
 -- and every answer is the same of both
 pub alike-after : {D : List ℕ} {h k : Held} → AlikeBut D h k → IsHeld h → IsHeld k → (cs : List Call) → ReinstateNone D cs →

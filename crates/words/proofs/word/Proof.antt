@@ -60,11 +60,11 @@ words-in-little-room-requires : tie.Need-words_in_little_room-words-requires
 words-in-little-room-requires c κs = good c.before.before c.if-refused-ne0.false
 
 sub-t8 : tie.Need-overflow_sub-result
-sub-t8 c = let d = c in omega (arith, (inside d.before.before d.if-refused-ne0.false).0)
+sub-t8 c = omega (arith, (inside c.before.before.before c.if-refused-ne0.false).0)
 
 -- the place of the word lies in the row
 short : (d : tie.Else-refused-ne0) → j d.before.before - 1 < 24
-short d = let k = d in omega (arith, inside k d.if-refused-ne0.false, (good k d.if-refused-ne0.false).columns-high)
+short d = let k = d.before.before in omega (arith, inside k d.if-refused-ne0.false, (good k d.if-refused-ne0.false).columns-high)
 
 mul-t11 : tie.Need-offset_bounds-words-length
 mul-t11 c = omega (arith, short c.before)

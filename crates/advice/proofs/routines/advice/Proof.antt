@@ -1,5 +1,5 @@
 -- `routines::advice` meets its contract: the run at the place kept is what the loop over the runs keeps, and the row sums decide as the losses do.
-use Rattle.exact.proofs.Ground.{List, ⊎_elim, ◌≡◌, ◌∙◌, sym, ap, ℕ, ◌≤◌, ◌<◌, ◌-◌, arith, length, get_or, rules}
+use Rattle.exact.proofs.Ground.{List, ◌≡◌, ◌∙◌, sym, ap, ℕ, ◌≤◌, ◌<◌, ◌-◌, arith, length, get_or, rules}
 use Rattle.exact.specs.Fractions.{is_better}
 use Rattle.best.specs.Best.{lowest}
 use Rattle.best.proofs.Best.{BestSoFar, so-far-first, so-far-next, so-far-all}
@@ -8,6 +8,7 @@ use Rattle.advice.specs.Advice.{loss_order, advice}
 use Rattle.advice.proofs.Optimal.{losses-lawful}
 use Rattle.advice.proofs.RowSums.{length_at, rows-decide}
 use Rattle.advice.proofs.routines.advice.Statement.{statement}
+use Rattle.advice.proofs.routines.advice.Lts.{then-larger_row, else-larger_row}
 use Rattle.advice.proofs.routines.advice.Tie as tie
 
 abbrev invariant-loop-i : tie.invariant-loop-i
@@ -71,8 +72,10 @@ loop-again c =
     let k = c.before in
     let l = k in
     let next = so-far-next l.loop-i.invariant.2 (omega arith) in
-    ⊎_elim (λ w. rw w.1 (omega arith, omega arith, rw (sym (decided k) ∙ w.0.taken) at next))
-    (λ w. rw w.1 (omega arith, omega arith, rw (sym (decided k) ∙ w.0.left) at next)) c.if-larger_row.branch
+    elim c.if-larger_row.branch [
+      then-larger_row w ↦ rw w.best-is (omega arith, omega arith, rw (sym (decided k) ∙ w.if-larger_row.true) at next)
+    | else-larger_row w ↦ rw w.best-is (omega arith, omega arith, rw (sym (decided k) ∙ w.if-larger_row.false) at next)
+    ]
 
 returns : tie.Need-returns invariant-loop-i decreases-loop-i
 unfolding advice

@@ -1,10 +1,11 @@
 -- `routines::without` meets its contract: of the runs passed, those but f are in the first places, and the places after them hold zero.
-use Rattle.exact.proofs.Ground.{⊎_elim, ◌∙◌, ap, refl, ◌≤◌, ◌-◌, arith, length, replicate, take_all, rules}
+use Rattle.exact.proofs.Ground.{◌∙◌, ap, refl, ◌≤◌, ◌-◌, arith, length, replicate, take_all, rules}
 use Rattle.exact.specs.Lists.{into}
 use Rattle.exact.proofs.Rooms.{into-blank}
 use Rattle.advice.specs.Advice.{without}
 use Rattle.advice.proofs.Walks.{Passed, passed-lost, passed-kept}
 use Rattle.advice.proofs.routines.without.Statement.{statement}
+use Rattle.advice.proofs.routines.without.Lts.{then-runs-i, else-runs-i}
 use Rattle.advice.proofs.routines.without.Tie as tie
 
 abbrev invariant-loop-i : tie.invariant-loop-i
@@ -21,8 +22,10 @@ loop-again c =
     let l = c in
     let few = l.requires in (
       omega arith,
-      ⊎_elim (λ w. rw (w.2, w.3) (passed-kept l.loop-i.invariant.1 (omega arith) few w.0.taken))
-          (λ w. rw (w.1, w.2) (passed-lost l.loop-i.invariant.1 (omega arith) few w.0.left)) c.if-runs-i.branch,
+      elim c.if-runs-i.branch [
+        then-runs-i w ↦ rw (w.left-is, w.n-is) (passed-kept l.loop-i.invariant.1 (omega arith) few w.if-runs-i.true)
+      | else-runs-i w ↦ rw (w.left-is, w.n-is) (passed-lost l.loop-i.invariant.1 (omega arith) few w.if-runs-i.false)
+      ],
     )
 
 returns : tie.Need-returns invariant-loop-i decreases-loop-i

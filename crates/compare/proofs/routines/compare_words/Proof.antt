@@ -45,13 +45,13 @@ decided c e =
     ∙ l.loop-j.invariant.1
 
 returns : tie.Need-returns-in-Better invariant-loop-j decreases-loop-j
-returns c = decided c.before.before c.enum_told-1.given.1
+returns c = decided c.before c.in-Better.is
 
 returns-2 : tie.Need-returns-in-Worse invariant-loop-j decreases-loop-j
-returns-2 c = decided c.before.before c.enum_told-in-Worse-1.given.1
+returns-2 c = decided c.before c.in-Worse.is
 
 loop-again : tie.Need-loop-j-preserved invariant-loop-j decreases-loop-j
-loop-again c = (omega arith, decided c.before.before c.enum_told-in-Equal-1.given.1)
+loop-again c = (omega arith, decided c.before c.in-Equal.is)
 
 returns-3 : tie.Need-returns invariant-loop-j decreases-loop-j
 returns-3 c =

@@ -111,7 +111,7 @@ step c =
     (sym (rw (front m) at c.is_even.ensures))
 
 returns : tie.Need-returns-then-not-is_even invariant-loop-k decreases-loop-k
-returns c = sym (step c.before ∙ rw (not-true c.is_even.result c.if-not-is_even.true))
+returns c = sym (step c.before ∙ rw c.if-not-is_even.true)
 
 next-set-requires : tie.Need-next_set-requires invariant-loop-k decreases-loop-k
 next-set-requires c κs =
@@ -134,7 +134,7 @@ loop-again c =
       held m,
       rw c.next_set.ensures
           (walk-next 24 (length a.columns.now) a.t (few l) l.loop-k.k l.loop-k.places l.loop-k.invariant.3 (omega arith)),
-      sym (rw (not-false e.is_even.result c.if-not-is_even.false) at (step e)),
+      sym (rw c.if-not-is_even.false at (step e)),
     )
 
 returns-2 : tie.Need-returns invariant-loop-k decreases-loop-k

@@ -1,10 +1,11 @@
 -- `held::routines::standing_runs` meets its contract: before mark f the room holds the runs that stand among the first f.
-use Rattle.exact.proofs.Ground.{false, ⊎_elim, ◌≡◌, ◌∙◌, ◌≤◌, ◌<◌, ◌-◌, arith, length, get_or, take, length-set, length-take-le, get_or-take, rules}
+use Rattle.exact.proofs.Ground.{false, ◌≡◌, ◌∙◌, ◌≤◌, ◌<◌, ◌-◌, arith, length, get_or, take, length-set, length-take-le, get_or-take, rules}
 use Rattle.rules.specs.Plan.{most_runs}
 use Rattle.held.specs.Held.{marks_in}
 use Rattle.held.proofs.Sizes.{sized}
 use Rattle.held.proofs.Walk.{Walked, walk_begins, walk-stands, walk-struck, walk_ends}
 use Rattle.held.proofs.routines.standing_runs.Statement.{statement}
+use Rattle.held.proofs.routines.standing_runs.Lts.{then-marks-f, else-marks-f}
 use Rattle.held.proofs.routines.standing_runs.Tie as tie
 
 abbrev invariant-loop-f : tie.invariant-loop-f
@@ -27,24 +28,24 @@ loop-again c =
     let fits : length (marks_in h) ≤ most_runs = omega arith in
     let below : l.f < length (marks_in h) = omega arith in
     let read : get_or (marks_in h) l.f false ≡ get_or h.marks l.f false = get_or-take h.runs h.marks l.f false (omega arith) in
-    ⊎_elim
-    (λ w. (
-      omega arith,
-      l.invariant.1,
-      l.invariant.2,
-      rw (w.1, length-set) l.invariant.3,
-      omega arith,
-      rw (w.1, w.2) (walk-stands (marks_in h) fits l.f below l.invariant.5 (read ∙ w.0.taken)),
-    ))
-    (λ w. (
-      omega arith,
-      l.invariant.1,
-      l.invariant.2,
-      rw w.1 l.invariant.3,
-      omega arith,
-      rw (w.1, w.2) (walk-struck (marks_in h) fits l.f below l.invariant.5 (read ∙ w.0.left)),
-    ))
-    c.if-marks-f.branch
+    elim c.if-marks-f.branch [
+      then-marks-f w ↦ (
+        omega arith,
+        l.invariant.1,
+        l.invariant.2,
+        rw (w.runs-is, length-set) l.invariant.3,
+        omega arith,
+        rw (w.runs-is, w.count-is) (walk-stands (marks_in h) fits l.f below l.invariant.5 (read ∙ w.if-marks-f.true)),
+      )
+    | else-marks-f w ↦ (
+        omega arith,
+        l.invariant.1,
+        l.invariant.2,
+        rw w.runs-is l.invariant.3,
+        omega arith,
+        rw (w.runs-is, w.count-is) (walk-struck (marks_in h) fits l.f below l.invariant.5 (read ∙ w.if-marks-f.false)),
+      )
+    ]
 
 returns : tie.Need-returns invariant-loop-f decreases-loop-f
 returns c =

@@ -26,7 +26,7 @@ cast-g : tie.Need-overflow_cast-g
 cast-g c = search rules
 
 -- its pair
-both : (c : tie.Else-times-eq0) → let s = c in Runs (given s.before.before.before) s.args.x
+both : (c : tie.Else-times-eq0) → Runs (given c.before.before.before) c.args.x
 both c =
     let s = c in let ne : ¬ (s.args.times ≡ 0) = c.if-times-eq0.false in
     s.requires.1 (omega arith)

@@ -98,7 +98,7 @@ others_in_spec =
     invariant-loop-k
     decreases-loop-k
     loop-holds
-    (λ c. let l = c.before.before.before.before.before.before in sym (length-take-le l.loop-k.k (runs l) (omega (arith, l.loop-k.invariant.1))))
+    (λ c. let l = c.before.before.before.before.before in sym (length-take-le l.loop-k.k (runs l) (omega (arith, l.loop-k.invariant.1))))
     (λ c. omega arith)
     (λ c. omega arith)
     (λ c. omega arith)
@@ -107,8 +107,8 @@ others_in_spec =
     (λ c. omega arith)
     (λ c. omega arith)
     row-in-requires
-    (λ c. let l = c.before.before.before.before.before.before.before.before.before.before.before.before.before.before.before.before in omega (arith, (start l).requires.1.few))
-    (λ c. let l = c.before.before.before.before.before.before.before.before.before.before.before.before.before.before.before.before in omega (arith, (start l).requires.1.few))
+    (λ c. let l = c.before.before.before.before.before.before.before.before.before.before.before.before.before.before.before in omega (arith, (start l).requires.1.few))
+    (λ c. let l = c.before.before.before.before.before.before.before.before.before.before.before.before.before.before.before in omega (arith, (start l).requires.1.few))
     (λ c. omega arith)
     (λ c. omega arith)
     loop-again

@@ -15,12 +15,12 @@ use Rattle.words.proofs.routines.rows.Statement.{statement}
 use Rattle.words.proofs.routines.rows.Tie as tie
 
 abbrev invariant-loop-k : tie.invariant-loop-k
-invariant-loop-k levels table runs others₀ own rows₀ k₀ k-end others rows k =
+invariant-loop-k levels table runs others own rows₀ k₀ k-end rows k =
     let p = plan levels table in
     (k-end ≡ length runs) × (k ≤ k-end) × (others ≡ others_by_place p runs) × (rows ≡ marked (place p runs) most_runs (take k runs))
 
 abbrev decreases-loop-k : tie.decreases-loop-k
-decreases-loop-k levels table runs others₀ own rows₀ k₀ k-end others rows k = k-end - k
+decreases-loop-k levels table runs others own rows₀ k₀ k-end rows k = k-end - k
 
 rows-of-others-requires : tie.Need-rows_of_others-others-requires invariant-loop-k decreases-loop-k
 rows-of-others-requires c κs = c.requires
@@ -58,7 +58,7 @@ module _ (l : tie.At-loop-k invariant-loop-k decreases-loop-k) where
   own = l.diagonal-own.ensures
 
   -- the row that a turn reads
-  read : l.loop-k.k < length runs → (get_or l.loop-k.others l.loop-k.k past).sums ≡ others_list given runs run
+  read : l.loop-k.k < length runs → (get_or l.rows_of_others-others.result l.loop-k.k past).sums ≡ others_list given runs run
   read h = ap (λ rows. (get_or rows l.loop-k.k past).sums) l.loop-k.invariant.2 ∙ ap (λ s. s.sums) (others-at given runs l.loop-k.k h)
 
 mul-whole : tie.Need-offset_bounds-others-k invariant-loop-k decreases-loop-k
