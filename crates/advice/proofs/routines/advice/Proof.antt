@@ -73,8 +73,8 @@ loop-again c =
     let l = k in
     let next = so-far-next l.loop-i.invariant.2 (omega arith) in
     elim c.if-larger_row.branch [
-      then-larger_row w ↦ rw w.best-is (omega arith, omega arith, rw (sym (decided k) ∙ w.if-larger_row.true) at next)
-    | else-larger_row w ↦ rw w.best-is (omega arith, omega arith, rw (sym (decided k) ∙ w.if-larger_row.false) at next)
+      | then-larger_row w ↦ rw w.best-is (omega arith, omega arith, rw (sym (decided k) ∙ w.if-larger_row.true) at next)
+      | else-larger_row w ↦ rw w.best-is (omega arith, omega arith, rw (sym (decided k) ∙ w.if-larger_row.false) at next)
     ]
 
 returns : tie.Need-returns invariant-loop-i decreases-loop-i

@@ -23,8 +23,8 @@ loop-again c =
     let few = l.requires in (
       omega arith,
       elim c.if-runs-i.branch [
-        then-runs-i w ↦ rw (w.left-is, w.n-is) (passed-kept l.loop-i.invariant.1 (omega arith) few w.if-runs-i.true)
-      | else-runs-i w ↦ rw (w.left-is, w.n-is) (passed-lost l.loop-i.invariant.1 (omega arith) few w.if-runs-i.false)
+        | then-runs-i w ↦ rw (w.left-is, w.n-is) (passed-kept l.loop-i.invariant.1 (omega arith) few w.if-runs-i.true)
+        | else-runs-i w ↦ rw (w.left-is, w.n-is) (passed-lost l.loop-i.invariant.1 (omega arith) few w.if-runs-i.false)
       ],
     )
 

@@ -29,7 +29,7 @@ loop-again c =
     let below : l.f < length (marks_in h) = omega arith in
     let read : get_or (marks_in h) l.f false ≡ get_or h.marks l.f false = get_or-take h.runs h.marks l.f false (omega arith) in
     elim c.if-marks-f.branch [
-      then-marks-f w ↦ (
+      | then-marks-f w ↦ (
         omega arith,
         l.invariant.1,
         l.invariant.2,
@@ -37,7 +37,7 @@ loop-again c =
         omega arith,
         rw (w.runs-is, w.count-is) (walk-stands (marks_in h) fits l.f below l.invariant.5 (read ∙ w.if-marks-f.true)),
       )
-    | else-marks-f w ↦ (
+      | else-marks-f w ↦ (
         omega arith,
         l.invariant.1,
         l.invariant.2,

@@ -21,14 +21,14 @@ loop-again c =
     let l = c.loop-i in
     let levels = c.args.levels.now in
     elim c.if-levels-i-gt1.branch [
-      then-levels-i-gt1 w ↦ (
+      | then-levels-i-gt1 w ↦ (
         refl,
         omega arith,
         rw (w.columns-is, length-set) l.invariant.2,
         omega arith,
         rw (w.columns-is, w.many-is) (walk-several levels l.invariant.4 (omega arith) w.if-levels-i-gt1.true),
       )
-    | else-levels-i-gt1 w ↦ (
+      | else-levels-i-gt1 w ↦ (
         refl,
         omega arith,
         rw w.columns-is l.invariant.2,

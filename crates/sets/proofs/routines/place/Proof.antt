@@ -78,9 +78,9 @@ loop-again c =
     let l = t.loop-taken in
     let a = t.args in
     elim c.if-columns-taken.branch [
-      then-columns-taken w ↦ rw (w.place-is, w.taken-is)
+      | then-columns-taken w ↦ rw (w.place-is, w.taken-is)
           (placing-keep a.m a.columns.now l.column l.taken l.place l.invariant t.loop-taken-test.true w.if-columns-taken.true)
-    | else-columns-taken w ↦ rw (w.place-is, w.taken-is, w.looked_up-place.ensures)
+      | else-columns-taken w ↦ rw (w.place-is, w.taken-is, w.looked_up-place.ensures)
           (placing-skip a.m a.columns.now l.column l.taken l.place l.invariant t.loop-taken-test.true w.if-columns-taken.false)
     ]
 

@@ -61,10 +61,10 @@ loop-again c =
     let a = t.args in
     let b = c.looked_up-having.ensures in
     elim c.if-left-having.branch [
-      then-left-having w ↦ rw (w.columns-is, w.left-is, w.taken-is)
+      | then-left-having w ↦ rw (w.columns-is, w.left-is, w.taken-is)
           (choosing-keep a.m a.j a.k l.column l.taken l.left l.columns l.invariant t.loop-taken-test.true
           (omega (arith, within t)) (rw b at w.if-left-having.true))
-    | else-left-having w ↦ rw (w.columns-is, w.left-is, w.taken-is, b)
+      | else-left-having w ↦ rw (w.columns-is, w.left-is, w.taken-is, b)
           (choosing-skip a.m a.j a.k l.column l.taken l.left l.columns l.invariant t.loop-taken-test.true (rw b at w.if-left-having.false))
     ]
 
