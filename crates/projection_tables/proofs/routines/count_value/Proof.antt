@@ -34,7 +34,7 @@ other : (c : tie.Joined-at-used) →
     is_equal (smaller_fraction (fraction_at s.args.nums.now s.args.dens.now c.place_of-at.result) s.args.value) ≡ false
 other c l =
     elim c.if-at-used.branch [
-      then-at-used+else-is_equal w ↦ ap is_equal (sym w.smaller_fraction.ensures) ∙ sym w.is_equal.ensures ∙ w.if-is_equal.false
+      | then-at-used+else-is_equal w ↦ ap is_equal (sym w.smaller_fraction.ensures) ∙ sym w.is_equal.ensures ∙ w.if-is_equal.false
       | else-at-used w ↦ absurd (omega arith)
     ]
 
