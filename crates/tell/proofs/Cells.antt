@@ -20,6 +20,7 @@ module _ {A : Type 0} (test : A → Bool) where
       go false n = n
 
   pub counted : (x : A) (xs : List A) → Memᴰ x xs → test x ≡ true → 0 < count test xs
+  counted x [] m e = elim m [ ]
   counted x (y ∷ ys) (mem-head d) e = rw (sym (ap test d) ∙ e) (omega arith)
   counted x (y ∷ ys) (mem-tail m) e = go (test y) (counted x ys m e)
     where

@@ -114,6 +114,7 @@ module _ {R C : Type 0} (entry : R → C → ℕ) (a : C) (J : List C) (s : ℕ)
 
 module _ {R C : Type 0} (entry : R → C → ℕ) where
   cell_at : {k : C} (J : List C) (f g : R) → Memᴰ k J → cell entry J f ≡ cell entry J g → entry f k ≡ entry g k
+  cell_at [] f g m e = elim m [ ]
   cell_at (j ∷ J) f g (mem-head d) e = ap (entry f) d ∙ ap (λ P. get_or P 0 0) e ∙ sym (ap (entry g) d)
   cell_at (j ∷ J) f g (mem-tail m) e = cell_at J f g m (ap (drop 1) e)
 

@@ -47,6 +47,7 @@ module _ {A : Type 0} (test : A → Bool) where
 module _ {A : Type 0} where
   -- no term is above a sum of terms that are not negative
   term-le : (xs : List A) (f : A → ℤ) → ((x : A) → Memᴰ x xs → pos 0 ≤ℤ f x) → (x : A) → Memᴰ x xs → f x ≤ℤ sum xs f
+  term-le [] f h x m = elim m [ ]
   term-le (y ∷ ys) f h x (mem-head d) =
       subst₂ (λ p q. p ≤ℤ q) (sym (ap f d)) refl
       (subst (λ z. z ≤ℤ sum (y ∷ ys) f) (swap (f y)) (≤-+ (≤ℤ_refl (f y)) (sum_nonneg ys f (λ z n. h z (mem-tail n)))))

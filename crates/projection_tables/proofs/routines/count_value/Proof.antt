@@ -1,10 +1,11 @@
 -- `projection_tables::routines::count_value` meets its contract: at the place that the search finds, the value's line, or where it is to stand.
-use Rattle.exact.proofs.Ground.{false, ⊎_elim, ◌≡◌, ◌∙◌, sym, ap, ◌≤◌, ◌<◌, arith, rules}
+use Rattle.exact.proofs.Ground.{false, ◌≡◌, ◌∙◌, sym, ap, ◌≤◌, ◌<◌, arith, rules}
 use Rattle.exact.specs.Fractions.{smaller_fraction, is_equal}
 use Rattle.projection_tables.specs.Tables.{rooms, fraction_at}
 use Rattle.projection_tables.proofs.Lines.{at-within, found-lines, found-rooms, new-lines, new-rooms}
 use Rattle.projection_tables.proofs.routines.count_value.Statement.{statement}
 use Rattle.projection_tables.proofs.routines.count_value.Tie as tie
+use Rattle.projection_tables.proofs.routines.count_value.Lts.{then-at-used+else-is_equal, else-at-used}
 
 smaller-fraction-requires : tie.Need-smaller_fraction-requires
 smaller-fraction-requires c κs =
@@ -32,7 +33,10 @@ other : (c : tie.Joined-at-used) →
     c.place_of-at.result < s.args.used →
     is_equal (smaller_fraction (fraction_at s.args.nums.now s.args.dens.now c.place_of-at.result) s.args.value) ≡ false
 other c l =
-    ⊎_elim (λ w. ap is_equal (sym w.3.ensures) ∙ sym w.4.ensures ∙ w.5.left) (λ w. absurd (omega arith)) c.if-at-used.branch
+    elim c.if-at-used.branch [
+      | then-at-used+else-is_equal w ↦ ap is_equal (sym w.smaller_fraction.ensures) ∙ sym w.is_equal.ensures ∙ w.if-is_equal.false
+      | else-at-used w ↦ absurd (omega arith)
+    ]
 
 within : (c : tie.Joined-at-used) → c.place_of-at.result ≤ c.args.used
 within c =

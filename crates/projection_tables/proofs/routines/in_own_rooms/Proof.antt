@@ -30,7 +30,7 @@ module _ (c : tie.After-tabulate-lines) where
   blank = rooms (replicate 10_626 0) (replicate 10_626 0) (replicate 10_626 0)
 
   abbrev made : Rooms
-  made = let last = c.tabulate-lines.new.1.1.1.1.1 in rooms last.0 last.1.0 last.1.1.0
+  made = let last = c.tabulate-lines.new in rooms last.nums last.dens last.counts
 
   -- the three arrays hold the lines
   held : let n = c.tabulate-lines.result in (n ≤ length made.nums) × (n ≤ length made.dens) × (n ≤ length made.counts)

@@ -48,19 +48,19 @@ shared-slice-read-if1-2 c = omega (arith, inside-g c.before.before.before.before
 returns : tie.Need-returns-then-table-f invariant-loop-i decreases-loop-i
 returns c =
     let l = c in let a = l.args in
-    sym (l.loop-i.invariant.1 ∙ differs-here (given l.before) a.f a.g l.loop-i.i (omega arith) c.if-table-f.true)
+    sym (l.loop-i.invariant.1 ∙ differs-here (given l.before.before.before.before.before) a.f a.g l.loop-i.i (omega arith) c.if-table-f.true)
 
 loop-again : tie.Need-loop-i-preserved invariant-loop-i decreases-loop-i
 loop-again c =
     let l = c in let a = l.args in (
       omega arith,
-      l.loop-i.invariant.1 ∙ alike-on (given l.before) a.f a.g l.loop-i.i (omega arith) c.if-table-f.false,
+      l.loop-i.invariant.1 ∙ alike-on (given l.before.before.before.before.before) a.f a.g l.loop-i.i (omega arith) c.if-table-f.false,
     )
 
 returns-2 : tie.Need-returns invariant-loop-i decreases-loop-i
 returns-2 c =
     let l = c in let a = l.args in
-    sym (l.loop-i.invariant.1 ∙ alike_end (given l.before) a.f a.g l.loop-i.i c.loop-i-test.false)
+    sym (l.loop-i.invariant.1 ∙ alike_end (given l.before.before) a.f a.g l.loop-i.i c.loop-i-test.false)
 
 pub are_alike_spec : {M : Type 1} → statement M
 are_alike_spec =

@@ -39,19 +39,19 @@ shared-slice-read-if1 c = omega (arith, inside c.before, c.requires.1)
 returns : tie.Need-returns-then-table-f invariant-loop-f decreases-loop-f
 returns c =
     let d = c in let l = d in let a = l.args in
-    sym (l.loop-f.invariant.1 ∙ occurs-here (given l.before) a.column a.level l.loop-f.f d.loop-f-test.true c.if-table-f.true)
+    sym (l.loop-f.invariant.1 ∙ occurs-here (given l.before.before.before.before) a.column a.level l.loop-f.f d.loop-f-test.true c.if-table-f.true)
 
 loop-again : tie.Need-loop-f-preserved invariant-loop-f decreases-loop-f
 loop-again c =
     let d = c in let l = d in let a = l.args in (
       omega arith,
-      l.loop-f.invariant.1 ∙ occurs-on (given l.before) a.column a.level l.loop-f.f d.loop-f-test.true c.if-table-f.false,
+      l.loop-f.invariant.1 ∙ occurs-on (given l.before.before.before.before) a.column a.level l.loop-f.f d.loop-f-test.true c.if-table-f.false,
     )
 
 returns-2 : tie.Need-returns invariant-loop-f decreases-loop-f
 returns-2 c =
     let l = c in let a = l.args in
-    sym (l.loop-f.invariant.1 ∙ occurs-end (given l.before) a.column a.level l.loop-f.f c.loop-f-test.false)
+    sym (l.loop-f.invariant.1 ∙ occurs-end (given l.before.before) a.column a.level l.loop-f.f c.loop-f-test.false)
 
 pub occurs_spec : {M : Type 1} → statement M
 occurs_spec =

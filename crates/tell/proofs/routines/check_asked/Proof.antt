@@ -1,5 +1,5 @@
 -- `check_asked` meets its contract: each test is a part of the one check.
-use Rattle.exact.proofs.Ground.{true, ◌≡◌, sym, ◌∙◌, arith, not-true, not-false, rules}
+use Rattle.exact.proofs.Ground.{true, ◌≡◌, sym, ◌∙◌, arith, rules}
 use Rattle.rules.specs.Refusals.{is_set}
 use Rattle.tell.proofs.Asking.{asked-outside, asked-no-set, asked-among, asked-right}
 use Rattle.tell.proofs.routines.check_asked.Statement.{statement}
@@ -16,12 +16,12 @@ returns-2 c =
     let a = d.args in
     c.plain-then-not-is_set.ensures
     ∙ sym (asked-no-set a.m a.column a.others.now (omega (arith, d.if-m-column.false))
-    (sym d.is_set.ensures ∙ not-true _ c.if-not-is_set.true))
+    (sym d.is_set.ensures ∙ c.if-not-is_set.true))
 
 -- the others are a set
 module _ (o : tie.After-holds) where
   chosen : let a = o.args in is_set a.m a.others.now ≡ true
-  chosen = sym o.is_set.ensures ∙ not-false _ o.if-not-is_set.false
+  chosen = sym o.is_set.ensures ∙ o.if-not-is_set.false
 
 returns-3 : tie.Need-returns-then-holds
 returns-3 c =

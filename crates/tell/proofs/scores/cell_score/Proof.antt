@@ -1,5 +1,5 @@
 -- `cell_score` meets its contract: the score of the entries where the runs are in one cell.
-use Rattle.exact.proofs.Ground.{List, [], ◌∷◌, ◌∙◌, sym, ℕ, arith, not-true, not-false, rules}
+use Rattle.exact.proofs.Ground.{List, [], ◌∷◌, ◌∙◌, sym, ℕ, arith, rules}
 use Rattle.exact.proofs.Bits.{of}
 use Rattle.rules.specs.Plan.{Plan, plan}
 use Rattle.tell.proofs.Turns.{asked-run}
@@ -18,7 +18,7 @@ returns : tie.Need-returns-then-not-agree
 returns c =
     let s = c.before.before.before.before.before in
     let a = s.args in
-    score-apart (given s) a.column a.others.now a.f a.g (sym c.agree.ensures ∙ not-true _ c.if-not-agree.true)
+    score-apart (given s) a.column a.others.now a.f a.g (sym c.agree.ensures ∙ c.if-not-agree.true)
 
 returns-2 : tie.Need-returns
 returns-2 c =
@@ -28,7 +28,7 @@ returns-2 c =
     let a = s.args in
     of c.score.result c.score.type_inv ∙ c.score.ensures
     ∙ score-met (given s) a.column a.others.now a.f a.g d.level_of-x.result e.level_of-y.result
-    d.level_of-x.ensures.0 e.level_of-y.ensures.0 (sym d.agree.ensures ∙ not-false _ d.if-not-agree.false)
+    d.level_of-x.ensures.0 e.level_of-y.ensures.0 (sym d.agree.ensures ∙ d.if-not-agree.false)
 
 level-of-requires : tie.Need-level_of-x-requires
 level-of-requires c κs =

@@ -84,9 +84,9 @@ add-requires : tie.Need-add-requires invariant-loop-k decreases-loop-k
 add-requires c κs =
     let d = c.before.before.before in
     let more = to_z w64 (of_z w64 c.later_scores-later.result) in
-    let small : nat_abs (to_z w64 d.loop-k.total) ≤ most_runs * (most_runs * most_score) = rw d.loop-k.invariant.1 (so_far (start d) d.loop-k.k) in
+    let small : nat_abs (to_z w64 d.loop-k.total-bits) ≤ most_runs * (most_runs * most_score) = rw d.loop-k.invariant.1 (so_far (start d) d.loop-k.k) in
     rw (doubled c)
-    (omega (arith, nat_abs-+ (to_z w64 d.loop-k.total) (pos 2 *ℤ more), nat_abs-* (pos 2) more, later-small c.before))
+    (omega (arith, nat_abs-+ (to_z w64 d.loop-k.total-bits) (pos 2 *ℤ more), nat_abs-* (pos 2) more, later-small c.before))
 
 -- the scores with this run, read back from their bits
 turn : (c : tie.After-add invariant-loop-k decreases-loop-k) →

@@ -56,7 +56,7 @@ cell-score-requires c κs =
 turn : (c : tie.After-cell_score invariant-loop-k decreases-loop-k) →
     let d = c.before.before.before in
     let s = start d in
-    to_z w64 (of_z w64 c.cell_score.result) +ℤ to_z w64 d.loop-k.total
+    to_z w64 (of_z w64 c.cell_score.result) +ℤ to_z w64 d.loop-k.total-bits
     ≡ sum (drop (d.loop-k.k - 1) (rs s)) (cell_score (given s) s.args.column (J s) (own s))
 turn c =
     let d = c.before.before.before in

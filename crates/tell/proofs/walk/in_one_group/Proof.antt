@@ -25,8 +25,8 @@ start l = l.before.before.before.before.before.before.before
 returns : tie.Need-returns-then-runs-eq0 invariant-loop-k decreases-loop-k
 returns c =
     let s = c.before.before.before.before in
-    sym (sym (alike_all (given s) s.args.column s.args.runs.now s.args.t5)
-    ∙ alike-none (given s) s.args.column s.args.runs.now s.args.t5 1 (omega arith))
+    sym (sym (alike_all (given s) s.args.column s.args.runs.now s.args.groups)
+    ∙ alike-none (given s) s.args.column s.args.runs.now s.args.groups 1 (omega arith))
 
 level-of-requires : tie.Need-level_of-first-requires invariant-loop-k decreases-loop-k
 level-of-requires c κs =
@@ -36,7 +36,7 @@ level-of-requires c κs =
 loop-holds : tie.Need-loop-k-init invariant-loop-k decreases-loop-k
 loop-holds c =
     let s = c.before.before.before.before.before.before in
-    (search rules, refl, alike_all (given s) s.args.column s.args.runs.now s.args.t5)
+    (search rules, refl, alike_all (given s) s.args.column s.args.runs.now s.args.groups)
 
 level-of-requires-2 : tie.Need-level_of-level-requires invariant-loop-k decreases-loop-k
 level-of-requires-2 c κs =
@@ -55,7 +55,7 @@ returns-2 c =
     let d = c in
     let l = d.before.before.before.before in
     let s = start l in
-    sym (sym l.loop-k.invariant.2 ∙ alike-differs (given s) s.args.column s.args.runs.now s.args.t5
+    sym (sym l.loop-k.invariant.2 ∙ alike-differs (given s) s.args.column s.args.runs.now s.args.groups
     l.level_of-first.result d.level_of-level.result l.loop-k.k
     l.level_of-first.ensures.0 d.level_of-level.ensures.0 (omega arith) c.if-groups-level.true)
 
@@ -66,7 +66,7 @@ loop-again c =
     let s = start l in (
       omega arith,
       refl,
-      sym (alike_same (given s) s.args.column s.args.runs.now s.args.t5
+      sym (alike_same (given s) s.args.column s.args.runs.now s.args.groups
           l.level_of-first.result d.level_of-level.result l.loop-k.k
           l.level_of-first.ensures.0 d.level_of-level.ensures.0 (omega arith) c.if-groups-level.false) ∙ l.loop-k.invariant.2,
     )
@@ -75,7 +75,7 @@ returns-3 : tie.Need-returns invariant-loop-k decreases-loop-k
 returns-3 c =
     let l = c.before in
     let s = start l in
-    sym (sym l.loop-k.invariant.2 ∙ alike-none (given s) s.args.column s.args.runs.now s.args.t5 l.loop-k.k (omega arith))
+    sym (sym l.loop-k.invariant.2 ∙ alike-none (given s) s.args.column s.args.runs.now s.args.groups l.loop-k.k (omega arith))
 
 pub in_one_group_spec : {M : Type 1} → statement M
 in_one_group_spec =

@@ -18,7 +18,7 @@ returns c =
     let d = c in
     let s = d.before.before.before.before.before in
     let a = s.args in
-    same-group (given s) a.column a.others.now a.f a.g a.t8 a.x d.level_of-y.result s.requires.1 d.level_of-y.ensures.0
+    same-group (given s) a.column a.others.now a.f a.g a.groups a.x d.level_of-y.result s.requires.1 d.level_of-y.ensures.0
     c.if-groups-x.true
 
 returns-2 : tie.Need-returns
@@ -27,7 +27,7 @@ returns-2 c =
     let s = d.before.before.before.before.before.before in
     let a = s.args in
     c.agree.ensures
-    ∙ other-group (given s) a.column a.others.now a.f a.g a.t8 a.x d.level_of-y.result s.requires.1 d.level_of-y.ensures.0
+    ∙ other-group (given s) a.column a.others.now a.f a.g a.groups a.x d.level_of-y.result s.requires.1 d.level_of-y.ensures.0
     c.if-groups-x.false
 
 level-of-requires : tie.Need-level_of-y-requires

@@ -1,12 +1,13 @@
 -- `met_later` meets its contract: what is left to meet the run, from the groups and links so far, gives what all later runs give. Where all
 -- levels are joined that is what there is.
-use Rattle.exact.proofs.Ground.{◌≡◌, refl, sym, ◌∙◌, ap, subst, ⊎_elim, suc, ◌+◌, ◌-◌, ◌≤◌, arith, length, get_or, drop, rules}
+use Rattle.exact.proofs.Ground.{◌≡◌, refl, sym, ◌∙◌, ap, subst, suc, ◌+◌, ◌-◌, ◌≤◌, arith, length, get_or, drop, rules}
 use Rattle.rules.specs.Plan.{Plan, plan, level}
 use Rattle.tell.specs.Given.{after_run}
 use Rattle.tell.proofs.Turns.{asked-run, asked-two}
 use Rattle.tell.proofs.Joining.{Walked, after_turn, turn-links, turn-passes, walked-two, run_none, run-next, run-full}
 use Rattle.tell.proofs.walk.met_later.Statement.{statement}
 use Rattle.tell.proofs.walk.met_later.Tie as tie
+use Rattle.tell.proofs.walk.met_later.Lts.{then-joins_groups, else-joins_groups}
 
 abbrev invariant-loop-k : tie.invariant-loop-k
 invariant-loop-k levels table runs at column others last f x state₀ k₀ k-end state k =
@@ -52,11 +53,12 @@ turn c =
     let f = get_or a.runs.now a.at 0 in
     let g = get_or a.runs.now l.loop-k.k 0 in
     let found = sym c.joins_groups.ensures in
-    ⊎_elim
-    (λ w. w.3 ∙ w.2.ensures
-    ∙ turn-links (given s) a.column a.others.now f g l.loop-k.state l.level_of-x.result w.1.result
-    l.level_of-x.ensures.0 w.1.ensures.0 (found ∙ w.0.taken))
-    (λ w. w.1 ∙ turn-passes (given s) a.column a.others.now f g l.loop-k.state (found ∙ w.0.left)) c.if-joins_groups.branch
+    elim c.if-joins_groups.branch [
+      | then-joins_groups w ↦ w.state-is ∙ w.met-after.ensures
+          ∙ turn-links (given s) a.column a.others.now f g l.loop-k.state l.level_of-x.result w.level_of-y.result
+          l.level_of-x.ensures.0 w.level_of-y.ensures.0 (found ∙ w.if-joins_groups.true)
+      | else-joins_groups w ↦ w.state-is ∙ turn-passes (given s) a.column a.others.now f g l.loop-k.state (found ∙ w.if-joins_groups.false)
+    ]
 
 loop-again : tie.Need-loop-k-preserved invariant-loop-k decreases-loop-k
 loop-again c =
