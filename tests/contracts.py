@@ -5,7 +5,7 @@ more may be reached than is cited, and never less.
 """
 import os, re
 
-WORD = re.compile(r'[^\s(){}\[\];,"⌜⌝⟦⟧@]+')
+WORD = re.compile(r'[^\s(){}\[\];,"@]+')
 MARKS = r'(?:unfoldable |abbrev |pub )*'
 
 
@@ -25,7 +25,7 @@ def library():
 
 def module_of(path):
     """The crate and module of a `use` path into specs, the crate's own or another's; None for a library of the kit."""
-    m = re.match(r'Rattle·(\w+?)(?:·specs)?\.specs\.(.*)$', path)
+    m = re.match(r'Rattle\.(\w+)\.specs\.(.*)$', path)
     return m and (m.group(1), m.group(2))
 
 
@@ -118,12 +118,12 @@ class Specs:
                     end = k
                     while not lines[end].startswith('}') and not lines[end].rstrip().endswith(';'):
                         end += 1
-                    part = Block(lines[start:end + 1], [])
+                    part = Block([l for l in lines[start:end + 1] if not l.startswith('#[')], [])
                     part.names = {m.group(2)} | {v.group(1) for l in lines[k:end] for v in [re.match(r'    (\w+)', l)] if v and m.group(1) == 'enum'}
                     parts.append(part)
                     self.home[crate, 'declared.' + inside + m.group(2), m.group(2)] = (part, crate, module, rust_names(lines, crate))
                     for name in part.names - {m.group(2)}:
-                        self.home[crate, 'declared.%s%s.the-variants' % (inside, m.group(2)), name] = (part, crate, module, {})
+                        self.home[crate, 'declared.%s%s.TheVariants' % (inside, m.group(2)), name] = (part, crate, module, {})
                 k += 1
             if parts:
                 self.files.append((path, crate, module, [], parts, {}))
@@ -132,12 +132,12 @@ class Specs:
 def rust_names(lines, crate):
     """Structs that a struct's fields name: those of the same file, and those that `use` lines bring."""
     names = {}
-    for l in lines:
-        m = re.match(r'use ([\w:]+)::(\w+);', l)
-        if m:
-            path = m.group(1).split('::')
+    for m in re.finditer(r'^use ([\w:]+)::(?:(\w+)|\{([^{}]*)\});', '\n'.join(lines), re.M):
+        for leaf in (m.group(2) or m.group(3)).split(','):
+            path = m.group(1).split('::') + leaf.strip().split('::')
             home = crate if path[0] == 'crate' else path[0]
-            names[m.group(2)] = (home, '.'.join(['declared'] + path[1:] + [m.group(2)]), m.group(2))
+            if path[-1]:
+                names[path[-1]] = (home, '.'.join(['declared'] + path[1:]), path[-1])
     for l in lines:
         m = re.match(r'pub(?:\(crate\))? (?:struct|enum) (\w+)', l)
         if m:
@@ -191,7 +191,7 @@ def reached(specs, points):
     seen, todo = set(), []
     def look(words, names, crate, module):
         for word in words:
-            for piece in {word, word.strip('.'), word.lstrip('&')}:
+            for piece in {word, word.lstrip('&'), *word.split('.')}:
                 at = names.get(piece) or ((crate, module, piece) if (crate, module, piece) in specs.home else None)
                 if at and at in specs.home and id(specs.home[at][0]) not in seen:
                     seen.add(id(specs.home[at][0]))
