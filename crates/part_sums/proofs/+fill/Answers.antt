@@ -5,7 +5,7 @@ use lib.Signed.{mag}
 use Rattle.exact.specs.Lists.{filled_to}
 use Rattle.exact.proofs.Bits.{of}
 use Rattle.exact.proofs.Numbers.{mul-below}
-use Rattle.rules.specs.Plan.{Plan, plan, level, entry, columns}
+use Rattle.rules.specs.Plan.{Plan, plan, level, columns}
 use Rattle.counts.specs.Numbered.{most_numbers}
 use Rattle.parts.specs.Parts.{squares_of, longer}
 use Rattle.parts.proofs.OverParts.{from_place, longer-front}

@@ -3,7 +3,6 @@ use Rattle.exact.proofs.Ground.{List, [], ◌∷◌, map, ◌++◌, ◌≡◌, �
 use Rattle.exact.proofs.Ground.{take, drop, set, length-map, length-set, length-drop}
 use lib.Seq.{take-suc-set}
 use Rattle.exact.specs.Lists.{filled_to}
-use Rattle.exact.proofs.Numbers.{row_within}
 use Rattle.exact.proofs.Lists.{get_d_map}
 use Rattle.exact.proofs.Members.{get_or-mem}
 use Rattle.rules.specs.Plan.{Plan, plan, level, entry, columns}
@@ -11,7 +10,6 @@ use Rattle.sets.specs.Sets.{choose}
 use Rattle.counts.specs.Numbered.{number_of, most_numbers}
 use Rattle.parts.specs.Parts.{longer, turned}
 use Rattle.parts.proofs.OverParts.{from_place, longer-front}
-use Rattle.parts.proofs.TurnedEntries.{turned-length}
 use Rattle.set_ratios.specs.Given.{Empty, numbers_in}
 use Rattle.set_ratios.proofs.Tallied.{longer-at}
 use Rattle.ratios.specs.declared.Ratios.{Ratios}
