@@ -4,13 +4,13 @@ use Rattle.ratios.proofs.greater.Statement.{statement}
 use Rattle.ratios.proofs.greater.Tie as tie
 
 returns : tie.Need-returns-in-Better
-returns c = rw (sym c.smaller_fraction.ensures ∙ c.enum_told-1.given.1)
+returns c = rw (sym c.smaller_fraction.ensures ∙ c.in-Better.is)
 
 returns-2 : tie.Need-returns-in-Worse
-returns-2 c = rw (sym c.smaller_fraction.ensures ∙ c.enum_told-in-Worse-1.given.1)
+returns-2 c = rw (sym c.smaller_fraction.ensures ∙ c.in-Worse.is)
 
 returns-3 : tie.Need-returns-in-Equal
-returns-3 c = rw (sym c.smaller_fraction.ensures ∙ c.enum_told-in-Equal-1.given.1)
+returns-3 c = rw (sym c.smaller_fraction.ensures ∙ c.in-Equal.is)
 
 pub greater_spec : {M : Type 1} → statement M
 greater_spec =

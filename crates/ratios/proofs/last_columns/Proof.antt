@@ -157,15 +157,15 @@ loop-again c =
     let a = (s m (h f)).args in (
       omega (arith, h f),
       refl,
-      simp length-set m.loop.invariant.2,
-      take-set-le a.depth m.loop.with a.depth (i m (h f)) (omega arith) ∙ m.loop.invariant.3,
+      simp length-set m.loop-k.invariant.2,
+      take-set-le a.depth m.loop-k.with a.depth (i m (h f)) (omega arith) ∙ m.loop-k.invariant.3,
       c.with_ratio-ratios.ensures
-          ∙ ap₂ (λ r b. with_ratio m.loop.ratios r b) (value f) (holding f)
-          ∙ ap (λ x. with_ratio x (relative_of (level (p m (h f))) (entry (p m (h f))) (rs m (h f)) (own m (h f))) (holds a.column (own m (h f)))) m.loop.invariant.4
-          ∙ sym (ending-next (p m (h f)) (rs m (h f)) (P m (h f)) (rest m (h f)) m.loop.k (h f) a.column a.best),
+          ∙ ap₂ (λ r b. with_ratio m.loop-k.ratios r b) (value f) (holding f)
+          ∙ ap (λ x. with_ratio x (relative_of (level (p m (h f))) (entry (p m (h f))) (rs m (h f)) (own m (h f))) (holds a.column (own m (h f)))) m.loop-k.invariant.4
+          ∙ sym (ending-next (p m (h f)) (rs m (h f)) (P m (h f)) (rest m (h f)) m.loop-k.k (h f) a.column a.best),
       subst ShortRatios (sym c.with_ratio-ratios.ensures)
-          (with-short m.loop.ratios f.ratio-ratio.result f.holds.result m.loop.invariant.5 (short f)),
-      f.ratio-ratio.ensures.1 ∙ m.loop.invariant.6,
+          (with-short m.loop-k.ratios f.ratio-ratio.result f.holds.result m.loop-k.invariant.5 (short f)),
+      f.ratio-ratio.ensures.1 ∙ m.loop-k.invariant.6,
     )
 
 returns : tie.Need-returns invariant-loop-k decreases-loop-k

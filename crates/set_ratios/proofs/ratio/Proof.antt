@@ -100,8 +100,8 @@ returns-2 c =
     let v = w (d f) in
     let e : (d f).product_of-combinations.result * f.squares-squares.result - n f * n f ≡ W f = omega (arith, word f) in (
       c.reduced.ensures
-          ∙ ap₂ (λ x l. reduced x (n f * n f * (l - 1))) e v.smallest-level.ensures
-          ∙ value-several (given v) (rs v) (I v) (subst (λ l. 2 ≤ l) v.smallest-level.ensures (several f)),
+          ∙ ap₂ (λ x l. reduced x (n f * n f * (l - 1))) e v.smallest_level-lowest.ensures
+          ∙ value-several (given v) (rs v) (I v) (subst (λ l. 2 ≤ l) v.smallest_level-lowest.ensures (several f)),
       f.squares-squares.ensures.1,
     )
 

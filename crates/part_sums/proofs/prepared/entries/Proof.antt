@@ -48,7 +48,7 @@ loop-again c =
     let p = plan s.args.levels.now s.args.table.now in (
       omega arith,
       refl,
-      c.turn_column.auto.1.1.1.1.1.0 ∙ l.loop-t.invariant.2,
+      c.turn_column.auto.room ∙ l.loop-t.invariant.2,
       c.turn_column.ensures
           ∙ turned-next (entry p) s.args.runs.now s.args.columns.now 6144 l.loop-t.t 0 l.loop-t.room l.loop-t.invariant.3 (omega arith) (few s),
     )

@@ -70,7 +70,7 @@ pair-product-requires c κs =
 turn : (c : tie.After-pair_product invariant-loop-k decreases-loop-k) →
     let d = c.before.before.before in
     let s = start d in
-    to_z w64 (of_z w64 c.pair_product.result) +ℤ to_z w64 d.loop-k.total ≡ sum (drop (d.loop-k.k - 1) (rs s)) (pair_of (given s) (I s) (own s))
+    to_z w64 (of_z w64 c.pair_product.result) +ℤ to_z w64 d.loop-k.total-bits ≡ sum (drop (d.loop-k.k - 1) (rs s)) (pair_of (given s) (I s) (own s))
 turn c =
     let d = c.before.before.before in
     let s = start d in

@@ -62,7 +62,7 @@ module _ (c : tie.After-score-score invariant-loop-k decreases-loop-k) where
 
   turn :
       let s = start head in
-      to_z w64 (of_z w64 c.score-score.result) *ℤ to_z w64 head.loop-k.product
+      to_z w64 (of_z w64 c.score-score.result) *ℤ to_z w64 head.loop-k.product-bits
       ≡ score_product (given s) (drop (head.loop-k.k - 1) (I s)) s.args.a s.args.b
   turn =
       let s = start head in
@@ -74,7 +74,7 @@ mul-requires c κs =
     let d = head c in
     let s = start d in
     rw (turn c)
-    (omega (arith, product_small (given s) (I s) s.requires.0 s.args.a s.args.b s.requires.1.0 s.requires.1.1 (d.loop.k - 1)))
+    (omega (arith, product_small (given s) (I s) s.requires.0 s.args.a s.args.b s.requires.1.0 s.requires.1.1 (d.loop-k.k - 1)))
 
 loop-again : tie.Need-loop-k-preserved invariant-loop-k decreases-loop-k
 loop-again c = (omega arith, of c.mul-product.result c.mul-product.type_inv ∙ c.mul-product.ensures ∙ turn c.before)

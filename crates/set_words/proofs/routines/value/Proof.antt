@@ -1,5 +1,5 @@
 -- `set_words::routines::value` meets its contract: the smallest level is 1, and the value 0/1, or one less than it is above zero.
-use Rattle.exact.proofs.Ground.{map, ◌≡◌, ◌∙◌, sym, ap, subst, ◌≤◌, ◌-◌, arith, rules, not-true, not-false, w64, to_z, of_z}
+use Rattle.exact.proofs.Ground.{map, ◌≡◌, ◌∙◌, sym, ap, subst, ◌≤◌, ◌-◌, arith, rules, w64, to_z, of_z}
 use Rattle.exact.specs.Lists.{smallest}
 use Rattle.exact.proofs.Bits.{back}
 use Rattle.rules.specs.Plan.{plan, level, entry, highest_level}
@@ -24,7 +24,7 @@ word-over-requires c κs =
 returns : tie.Need-returns-then-not-relative
 returns c =
     let a = c.args in
-    rw (not-true a.relative c.if-not-relative.true)
+    rw (c.if-not-relative.true)
     (c.word_over.ensures ∙ value-plain (plan a.levels.now a.table.now) a.runs.now a.columns.now)
 
 lowest : (c : tie.After-wide-lowest) →
@@ -50,7 +50,7 @@ returns-2 c =
     let w = c.before in
     let s = w in
     let a = s.args in
-    rw (not-false a.relative w.if-not-relative.false)
+    rw (w.if-not-relative.false)
     (value-one (plan a.levels.now a.table.now) a.runs.now a.columns.now s.requires.0.1.1 (sym (lowest w) ∙ c.if-lowest-eq1.true))
 
 sub-word-over : tie.Need-overflow_sub-lowest
@@ -68,7 +68,7 @@ returns-3 c =
     let s = w in
     let a = s.args in
     let p = plan a.levels.now a.table.now in
-    rw (not-false a.relative w.if-not-relative.false)
+    rw (w.if-not-relative.false)
     (c.word_over-2.ensures ∙ ap (λ l. over_pairs p a.runs.now a.columns.now (l - 1)) (lowest w)
     ∙ value-several p a.runs.now a.columns.now (subst (λ l. 2 ≤ l) (lowest w) (between c.before).0))
 

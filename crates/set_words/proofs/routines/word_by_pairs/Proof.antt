@@ -97,9 +97,9 @@ add-requires : tie.Need-add-requires invariant-loop-k decreases-loop-k
 add-requires c κs =
     let d = c.before.before.before.before.before in
     let more = to_z w64 (of_z w64 c.later_products-later.result) in
-    let small : nat_abs (to_z w64 d.loop-k.word) ≤ most_runs * (most_runs * highest_product) = rw d.loop-k.invariant.1 (so_far (start d) d.loop-k.k) in
+    let small : nat_abs (to_z w64 d.loop-k.word-bits) ≤ most_runs * (most_runs * highest_product) = rw d.loop-k.invariant.1 (so_far (start d) d.loop-k.k) in
     rw (doubled c)
-    (omega (arith, nat_abs-+ (to_z w64 d.loop-k.word) (pos 2 *ℤ more), nat_abs-* (pos 2) more, later-small c.before))
+    (omega (arith, nat_abs-+ (to_z w64 d.loop-k.word-bits) (pos 2 *ℤ more), nat_abs-* (pos 2) more, later-small c.before))
 
 -- the word with this run, read back from its bits
 turn : (c : tie.After-add invariant-loop-k decreases-loop-k) →
