@@ -52,7 +52,7 @@ neither-is false b = refl
 pub left-are : {h : Held} → IsHeld h → (lost : List ℕ) → (strikes_answer h lost).refused.number ≡ 0 →
     standing_in (strikes_answer h lost).held ≡ keep (λ f. not (holds f lost)) (standing_in h)
 left-are {h} H [] z = sym (keep_all (standing_in h))
-left-are {h} H (f ∷ fs) z = go (refuses a.refused) refl (left-are (call-held H (strikes f)) fs) z
+left-are {h} H (f ∷ fs) z = go (refuses a.refused) refl (left-are {h = a.held} (call-held H (strikes f)) fs) z
   where
     a : HeldAnswer
     a = call_answer h (strikes f)
@@ -73,7 +73,7 @@ left-are {h} H (f ∷ fs) z = go (refuses a.refused) refl (left-are (call-held H
 -- levels and entries stay
 pub left-plan : {h : Held} → IsHeld h → (lost : List ℕ) → plan_in (strikes_answer h lost).held ≡ plan_in h
 left-plan H [] = refl
-left-plan {h} H (f ∷ fs) = go (refuses a.refused) (left-plan (call-held H (strikes f)) fs)
+left-plan {h} H (f ∷ fs) = go (refuses a.refused) (left-plan {h = a.held} (call-held H (strikes f)) fs)
   where
     a : HeldAnswer
     a = call_answer h (strikes f)

@@ -16,7 +16,7 @@ strikes-held H [] = H
 strikes-held {h} H (f ∷ fs) =
     let a = call_answer h (strikes f) in
     let C = call-held H (strikes f) in
-    either (refuses a.refused) a (strikes_answer a.held fs) C (strikes-held C fs)
+    either (refuses a.refused) a (strikes_answer a.held fs) C (strikes-held {h = a.held} C fs)
   where
     either : (b : Bool) (a later : HeldAnswer) → IsHeld a.held → IsHeld later.held → IsHeld (cond b a later).held
     either true a later A L = A

@@ -1,5 +1,5 @@
 -- The parts as they are written are the lines of the definition.
-use Rattle.exact.proofs.Ground.{Bool, cond, List, [], ◌∷◌, ◌++◌, append_assoc, ◌≡◌, sym, ap, ℕ}
+use Rattle.exact.proofs.Ground.{Bool, cond, List, [], ◌∷◌, ◌++◌, append_assoc, ◌≡◌, ◌∙◌, sym, ap, ℕ}
 use Rattle.exact.specs.declared.fractions.Fraction.{Fraction}
 use Rattle.rules.specs.Plan.{Plan}
 use Rattle.text.specs.Bytes.{bytes}
@@ -26,6 +26,9 @@ module _ (p : Plan) (rs : List ℕ) (a : ℕ) (J : List ℕ) {told : Bool} {join
       ≡ tell_lines p rs a J
   unfolding tell_lines
   whole =
-      rw (split-are, pair-lines p rs a J A.asked A.are-joins, groups-are, A.is-told, A.are_words)
+      ap (λ gs.
+      line_of (bytes "tell") (a ∷ J) ++ cond told (line_of (bytes "answer yes") []) (line_of (bytes "answer no") []) ++ figure_line words
+      ++ level_lines_of p rs a gs ++ pair_lines_of p a joins ++ split_lines_of p rs a J joins.groups told) groups-are
+      ∙ rw (split-are, pair-lines p rs a J A.asked A.are-joins, A.is-told, A.are_words)
       (ap (λ l. l ++ pair_lines p rs a J ++ split_lines p rs a J)
       (sym (append_assoc (asked_line p rs a J ++ answer_line p rs a J ++ words_line p rs a J) (absent_lines p rs a J) (group_lines p rs a J))))

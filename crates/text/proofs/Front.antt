@@ -156,8 +156,8 @@ line-separated (piece ∷ next ∷ pieces) rest h e =
     subst Separated (sym (append_assoc piece (44 ∷ join 44 (next ∷ pieces)) (10 ∷ rest)))
     (separated piece 44 (join 44 (next ∷ pieces) ++ 10 ∷ rest) p refl (inl refl))
 
-pub no_line : (at k : ℕ) (bytes : List ℕ) → ¬ (Separated bytes) → line_from at k (split 10 bytes) ≡ no_line
-no_line at k bytes h = go (split 10 bytes) (join-split 10 bytes)
+pub not-a-line : (at k : ℕ) (bytes : List ℕ) → ¬ (Separated bytes) → line_from at k (split 10 bytes) ≡ no_line
+not-a-line at k bytes h = go (split 10 bytes) (join-split 10 bytes)
   where
     go : (pieces : List (List ℕ)) → join 10 pieces ≡ bytes → line_from at k pieces ≡ no_line
     go [] e = refl

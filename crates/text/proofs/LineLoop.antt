@@ -6,7 +6,7 @@ use Rattle.text.specs.Decimal.{value}
 use Rattle.text.specs.Text.{split}
 use Rattle.text.specs.Reading.{number_at, no_line, line_from, front_numbers, Roomy, LineRead}
 use Rattle.text.proofs.Places.{put-nothing, put-more, put-length, put_one}
-use Rattle.text.proofs.Front.{Separated, token, comma-line, comma-numbers, end_line, end-numbers, no_line}
+use Rattle.text.proofs.Front.{Separated, token, comma-line, comma-numbers, end_line, end-numbers, not-a-line}
 
 -- the numbers xs of the line are stored, and the loop stands at place `at`
 pub record SoFar (text : List ℕ) (from : ℕ) (room : List ℕ) (k at count : ℕ) (now : List ℕ) : Type 0 where
@@ -82,7 +82,7 @@ module _ {text : List ℕ} {from : ℕ} {room : List ℕ} {k at count : ℕ} {no
   -- what is left is no line
   line-fails : (after : List ℕ) → ¬ (Separated (drop at text)) → LineRead text from room k no_line after
   line-fails after h = record {
-    answer = sym (S.line ∙ no_line at count (drop at text) h);
+    answer = sym (S.line ∙ not-a-line at count (drop at text) h);
     stored = λ l. absurd (omega arith);
     left = λ l. absurd (omega arith);
   }

@@ -55,8 +55,9 @@ text-back text e =
     let rows = map numbers L.later in
     let levels = numbers L.line in
     let R = lines_rows m (L.line ∷ L.later) L.each in
-    rw (plan-lined text L, each-flat L.later numbers, rows-flat levels rows R.0 R.1)
-    (lines-back m (L.line ∷ L.later) L.each ∙ ap (join 10) (sym L.same) ∙ join-split 10 text)
+    ap write_text (plan-lined text L ∙ ap (plan levels) (each-flat L.later numbers))
+    ∙ ap (λ rs. write_lines (levels ∷ rs)) (rows-flat levels rows R.0 R.1)
+    ∙ lines-back m (L.line ∷ L.later) L.each ∙ ap (join 10) (sym L.same) ∙ join-split 10 text
 
 -- a plan has only one text
 pub text-unique : (s t : List ℕ) → malformed_line s ≡ 0 → malformed_line t ≡ 0 → plan_of s ≡ plan_of t → s ≡ t
@@ -100,7 +101,7 @@ module _ (p : Plan) (rs : List ℕ) (R : Runs p rs) where
         line = write_line p.levels;
         later = map write_line (map (row p) rs);
         same = split-lines (columns p) (p.levels ∷ map (row p) rs) text-rows;
-        each = rw F.0.size F;
+        each = subst (λ n. All (Formed n) (map write_line (p.levels ∷ map (row p) rs))) (sym F.0.size) F;
       }
 
   -- no line is malformed

@@ -23,7 +23,7 @@ of-size-requires : tie.Need-of_size-requires
 of-size-requires c κs =
     let k = c.before.before.before.before.before.before.before in
     let a = (start k).args in
-    omega (arith, plan-lines-fit (given k) (every_run (given k)) a.relative a.f (lent k) k.frequencies-answer.ensures.0, (start k).well-formed)
+    omega (arith, plan-lines-fit (given k) (every_run (given k)) a.relative a.f (lent k) k.frequencies-answer.ensures.0, (start k).well_formed)
 
 number-or-requires : tie.Need-number_or-requires
 number-or-requires c κs =

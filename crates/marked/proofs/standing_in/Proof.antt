@@ -1,11 +1,12 @@
 -- `marked::standing_in` meets its contract: before mark f the room holds the runs that stand among the first f.
-use Rattle.exact.proofs.Ground.{false, Bool, not, List, map, ⊎_elim, ◌≡◌, ◌∙◌, ap, ℕ, ◌≤◌, ◌<◌, ◌-◌, arith, eqb, length, get_or, length-map, length-set}
+use Rattle.exact.proofs.Ground.{false, Bool, not, List, map, ◌≡◌, ◌∙◌, ap, ℕ, ◌≤◌, ◌<◌, ◌-◌, arith, eqb, length, get_or, length-map, length-set}
 use Rattle.exact.proofs.Ground.{ne_eqb, eq-eqb, rules}
 use Rattle.exact.proofs.Lists.{get_d_map}
 use Rattle.rules.specs.Plan.{most_runs}
 use Rattle.held.proofs.Walk.{Walked, walk_begins, walk-stands, walk-struck, walk_ends}
 use Rattle.marked.proofs.standing_in.Statement.{statement}
 use Rattle.marked.proofs.standing_in.Tie as tie
+use Rattle.marked.proofs.standing_in.Lts.{then-marks-f-ne0, else-marks-f-ne0}
 
 abbrev stand : List ℕ → List Bool
 stand marks = map (λ b. not (eqb b 0)) marks
@@ -31,24 +32,24 @@ loop-again c =
     let fits : length (stand marks) ≤ most_runs = omega (arith, long) in
     let below : l.f < length (stand marks) = omega (arith, long) in
     let read : get_or (stand marks) l.f false ≡ not (eqb (get_or marks l.f 0) 0) = get_d_map (λ b. not (eqb b 0)) marks l.f 0 false (omega arith) in
-    ⊎_elim
-    (λ w. (
+    elim c.if-marks-f-ne0.branch [
+    then-marks-f-ne0 w ↦ (
       l.invariant.0,
       omega arith,
       l.invariant.2,
-      rw (w.1, length-set) l.invariant.3,
+      rw (w.runs-is, length-set) l.invariant.3,
       omega arith,
-      rw (w.1, w.2) (walk-stands (stand marks) fits l.f below l.invariant.5 (read ∙ ap not (ne_eqb (get_or marks l.f 0) 0 w.0.taken))),
-    ))
-    (λ w. (
+      rw (w.runs-is, w.count-is) (walk-stands (stand marks) fits l.f below l.invariant.5 (read ∙ ap not (ne_eqb (get_or marks l.f 0) 0 w.if-marks-f-ne0.true))),
+    )
+    | else-marks-f-ne0 w ↦ (
       l.invariant.0,
       omega arith,
       l.invariant.2,
-      rw w.1 l.invariant.3,
+      rw w.runs-is l.invariant.3,
       omega arith,
-      rw (w.1, w.2) (walk-struck (stand marks) fits l.f below l.invariant.5 (read ∙ ap not (eq-eqb (get_or marks l.f 0) 0 w.0.left))),
-    ))
-    c.if-marks-f-ne0.branch
+      rw (w.runs-is, w.count-is) (walk-struck (stand marks) fits l.f below l.invariant.5 (read ∙ ap not (eq-eqb (get_or marks l.f 0) 0 w.if-marks-f-ne0.false))),
+    )
+    ]
 
 returns : tie.Need-returns invariant-loop-f decreases-loop-f
 returns c =

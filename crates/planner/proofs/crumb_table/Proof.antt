@@ -35,7 +35,7 @@ of-size-requires c κs =
     let fits =
     lines_fit (given k) rs (is_relative a.relative) a.size (lent k) (of_marked (given k) (marks k)) (refusal (of_marked (given k) (marks k) []))
     (sym handed) k.table_marked-answer.ensures.0 in
-    omega (arith, fits, (start k).well-formed)
+    omega (arith, fits, (start k).well_formed)
 
 number-or-requires : tie.Need-number_or-requires
 number-or-requires c κs =

@@ -64,7 +64,7 @@ unwritten c = c.before.before.before.before.before.before.before.before.before
 div-t18 : tie.Need-nonzero_div-result
 div-t18 c =
     let e = (unwritten c) in
-    (passed-good (plan_at e.before.before) e.check-checked.ensures e.if-checked-ne0.false).columns-low
+    (passed-good (plan_at e.before.before.before.before) e.check-checked.ensures e.if-checked-ne0.false).columns-low
 
 returns-4 : tie.Need-returns
 returns-4 c =
@@ -75,7 +75,7 @@ returns-4 c =
     let a = length (levels_at k) in
     let b = length (table_at k) in
     accepted-answers (plan_refusal p a b) p (record { refused = c.accepted.result; columns = columns p; runs = runs p }) (levels_at k) (table_at k)
-    (rooms-decide e ∙ room-enough p a b u.before.if-levelroom-levels.false u.if3.left)
+    (rooms-decide e ∙ room-enough p a b u.if-levelroom-levels.false u.if-tableroom-table.false)
     (ap (λ r. record { refused = r; columns = columns p; runs = runs p }) c.accepted.ensures)
     c.copy.ensures c.copy-2.ensures
 

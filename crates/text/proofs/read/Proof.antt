@@ -64,16 +64,16 @@ returns-3 c =
     let f = c in
     let e = f.before.before.before.before.before.before.before.before.before in
     let l = lines_at e in
-    let s = l.before.before.before.before.before.before in
+    let s = l in
     let t = s.args.text.now in
     let a = s.args.levels.now in
     let b = s.args.table.now in
-    let n = l.read-lines.result in
-    let stored = l.read-lines.last.1.0 in
+    let n = l.read_lines-lines.result in
+    let stored = l.read_lines-lines.new.numbers in
     let P = stored-parts e in
     formed-answers t (take n.columns stored) (take (n.count - n.columns) (drop n.columns stored)) (length a) (length b)
-    f.fill.result a f.fill.new.levelroom b f.fill.new.tableroom l.before.before.if-text-gt-LONGEST_TEXT.false
-    (sym l.read-lines.ensures.answer ∙ e.if-lines-ne0.false) P.levels P.table f.fill.ensures
+    f.fill.result a f.fill.new.levelroom b f.fill.new.tableroom l.if-text-gt-LONGEST_TEXT.false
+    (sym l.read_lines-lines.ensures.answer ∙ e.if-lines-ne0.false) P.levels P.table f.fill.ensures
 
 pub read_spec : {M : Type 1} → statement M
 read_spec =

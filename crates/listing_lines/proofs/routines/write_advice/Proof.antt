@@ -33,13 +33,10 @@ pub write_advice_spec : {M : Type 1} → statement M
 write_advice_spec =
     tie.close
     (tie.spec
-    (λ c. search rules)
-    (λ c. search rules)
     (λ c κs. search rules)
     (λ c. search rules)
     returns
     advice-requires
-    (λ c. search rules)
     (λ c. search rules)
     (λ c κs. search rules)
     (λ c. search rules)

@@ -43,11 +43,9 @@ write_counts_spec =
     (tie.spec
     strength-requires
     (λ c. search rules)
-    (λ c. search rules)
     (λ c κs. search rules)
     mul-write-words
     write-words-requires
-    (λ c. search rules)
     (λ c. search rules)
     (λ c κs. search rules)
     (λ c. search rules)

@@ -11,11 +11,11 @@ use Rattle.listing_lines.proofs.routines.write_words.Statement.{statement}
 use Rattle.listing_lines.proofs.routines.write_words.Tie as tie
 
 abbrev invariant-loop-j : tie.invariant-loop-j
-invariant-loop-j words m pairs room₀ at end₀ j₀ t10 room end j =
+invariant-loop-j words m pairs room₀ at end₀ j₀ room end j =
     (1 ≤ j) × (j ≤ m + 1) × Put (word_lines_of words pairs (j - 1)) (68 * (j - 1)) end₀ room₀ end room
 
 abbrev decreases-loop-j : tie.decreases-loop-j
-decreases-loop-j words m pairs room₀ at end₀ j₀ t10 room end j = m + 1 - j
+decreases-loop-j words m pairs room₀ at end₀ j₀ room end j = m + 1 - j
 
 loop-holds : tie.Need-loop-j-init invariant-loop-j decreases-loop-j
 loop-holds c = let a = c.args in (omega arith, omega arith, put-none a.at a.room.now (omega (arith, c.requires.1)))
@@ -89,7 +89,6 @@ write_words_spec =
     element-copy-out-to-u64
     to-u64-requires
     reduced-requires
-    (λ c. refl)
     (λ c. refl)
     write-line-requires
     add-j

@@ -40,7 +40,7 @@ returns c =
     let k = t.before.before.before.before.before.before.before.before.before.before.before in
     let s = start_at k in
     let r = k.read-read.result.refused in
-    ap (λ (a : HeldAnswer). record { refused = r; held = a.held }) o.«open».ensures
+    ap (λ (a : HeldAnswer). record { refused = r; held = a.held }) o.open-nothing.ensures
     ∙ sym (unless-refused r (record { refused = r; held = empty_held }) (left_of s.args.text.now s.args.lost.now) t.if-refused-ne0.true)
     ∙ ap (λ q. unless q (record { refused = q; held = empty_held }) (left_of s.args.text.now s.args.lost.now)) (by-reader k)
 
@@ -50,13 +50,13 @@ mul-entries c = let F = front c.before in omega (arith, F.entries, entries-few _
 array-share-prefix-levels : tie.Need-slice_bounds-levels-end
 array-share-prefix-levels c = let F = front c.before in omega (arith, F.columns, F.good.columns-high)
 
-slice-aggregate-open-3 : tie.Need-slice-aggregate-open-3
+slice-aggregate-open-3 : tie.Need-slice_bounds-open-end-2
 slice-aggregate-open-3 c = let F = front c.before.before in F.columns ∙ sym (ap length F.levels)
 
 array-share-prefix-table : tie.Need-slice_bounds-table-end
 array-share-prefix-table c = let F = front c.before.before in omega (arith, F.entries, entries-few _ F.good)
 
-slice-aggregate-open-4 : tie.Need-slice-aggregate-open-4
+slice-aggregate-open-4 : tie.Need-slice_bounds-open-end-3
 slice-aggregate-open-4 c = let F = front c.before.before.before in F.entries ∙ sym (ap length F.table)
 
 struck-requires : tie.Need-struck-requires
@@ -82,8 +82,6 @@ read_left_spec =
     (λ c. search rules)
     (λ c. search rules)
     (λ c κs. search rules)
-    (λ c. search rules)
-    (λ c. search rules)
     (λ c κs. search rules)
     returns
     mul-entries

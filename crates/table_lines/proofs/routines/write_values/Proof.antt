@@ -9,11 +9,11 @@ use Rattle.table_lines.proofs.routines.write_values.Statement.{statement}
 use Rattle.table_lines.proofs.routines.write_values.Tie as tie
 
 abbrev invariant-loop-k : tie.invariant-loop-k
-invariant-loop-k nums dens counts lines room₀ at end₀ k₀ t10 room end k =
+invariant-loop-k nums dens counts lines room₀ at end₀ k₀ room end k =
     (k ≤ lines) × PutEach (λ i. value_line (line_at (rooms nums dens counts) i)) 69 k at room₀ end room
 
 abbrev decreases-loop-k : tie.decreases-loop-k
-decreases-loop-k nums dens counts lines room₀ at end₀ k₀ t10 room end k = lines - k
+decreases-loop-k nums dens counts lines room₀ at end₀ k₀ room end k = lines - k
 
 abbrev start : tie.At-loop-k invariant-loop-k decreases-loop-k → tie.Start invariant-loop-k decreases-loop-k
 start l = l.before.before.before.before.before
@@ -21,13 +21,13 @@ start l = l.before.before.before.before.before
 loop-holds : tie.Need-loop-k-init invariant-loop-k decreases-loop-k
 loop-holds c = let s = c in (omega arith, put-none s.args.at s.args.room.now (omega (arith, s.requires.1)))
 
-shared-slice-read-t14 : tie.Need-shared-slice-read-t14 invariant-loop-k decreases-loop-k
+shared-slice-read-t14 : tie.Need-bounds-nums-k invariant-loop-k decreases-loop-k
 shared-slice-read-t14 c = omega (arith, (start c.before.before).requires.0.nums-wide)
 
-shared-slice-read-t17 : tie.Need-shared-slice-read-t17 invariant-loop-k decreases-loop-k
+shared-slice-read-t17 : tie.Need-bounds-dens-k invariant-loop-k decreases-loop-k
 shared-slice-read-t17 c = omega (arith, (start c.before.before.before).requires.0.dens-wide)
 
-shared-slice-read-t20 : tie.Need-shared-slice-read-t20 invariant-loop-k decreases-loop-k
+shared-slice-read-t20 : tie.Need-bounds-counts-k invariant-loop-k decreases-loop-k
 shared-slice-read-t20 c = omega (arith, (start c.before.before.before.before).requires.0.counts-wide)
 
 write-line-requires : tie.Need-write_line-end-requires invariant-loop-k decreases-loop-k
@@ -63,12 +63,11 @@ write_values_spec =
     decreases-loop-k
     loop-holds
     (λ c. omega arith)
-    shared-slice-read-t14
     (λ c. omega arith)
-    shared-slice-read-t17
     (λ c. omega arith)
-    shared-slice-read-t20
-    (λ c. refl)
+    (λ c. omega arith)
+    (λ c. omega arith)
+    (λ c. omega arith)
     (λ c. refl)
     write-line-requires
     (λ c. omega arith)

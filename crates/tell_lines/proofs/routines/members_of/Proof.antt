@@ -1,9 +1,10 @@
 -- Those of the first x levels that are in the group stand in front.
-use Rattle.exact.proofs.Ground.{Bool, ⊎_elim, ℕ, ◌≡◌, ◌∙◌, sym, refl, ◌≤◌, ◌-◌, arith, length, length-set, eqb, ne_eqb, eq-eqb}
+use Rattle.exact.proofs.Ground.{Bool, ℕ, ◌≡◌, ◌∙◌, sym, refl, ◌≤◌, ◌-◌, arith, length, length-set, eqb, ne_eqb, eq-eqb}
 use Rattle.tell.specs.Evidence.{group_of, most_groups}
 use Rattle.tell_lines.proofs.Sifted.{Sifted, sifted-next, sifted-passed}
 use Rattle.tell_lines.proofs.routines.members_of.Statement.{statement}
 use Rattle.tell_lines.proofs.routines.members_of.Tie as tie
+use Rattle.tell_lines.proofs.routines.members_of.Lts.{then-wide-k, else-wide-k}
 
 abbrev invariant-loop-x : tie.invariant-loop-x
 invariant-loop-x s k groups levels₀ many₀ x₀ levels many x =
@@ -25,23 +26,23 @@ loop-again : tie.Need-loop-x-preserved invariant-loop-x decreases-loop-x
 loop-again c =
     let l = c in
     let s = l.args in
-    let test : ℕ → Bool = λ y. eqb (group_of s.t1 y) s.k in
-    ⊎_elim
-    (λ w. (
+    let test : ℕ → Bool = λ y. eqb (group_of s.groups y) s.k in
+    elim c.if-wide-k.branch [
+    then-wide-k w ↦ (
       omega arith,
       l.loop-x.invariant.1,
-      rw (w.1, length-set) l.loop-x.invariant.2,
+      rw (w.levels-is, length-set) l.loop-x.invariant.2,
       omega arith,
-      rw (w.1, w.2) (sifted-next test most_groups l.loop-x.x (omega arith) l.loop-x.invariant.4 (eq-eqb _ _ (sym c.wide.ensures ∙ w.0.taken))),
-    ))
-    (λ w. (
+      rw (w.levels-is, w.many-is) (sifted-next test most_groups l.loop-x.x (omega arith) l.loop-x.invariant.4 (eq-eqb _ _ (sym c.wide.ensures ∙ w.if-wide-k.true))),
+    )
+    | else-wide-k w ↦ (
       omega arith,
       l.loop-x.invariant.1,
-      rw w.1 l.loop-x.invariant.2,
+      rw w.levels-is l.loop-x.invariant.2,
       omega arith,
-      rw (w.1, w.2) (sifted-passed test most_groups l.loop-x.x l.loop-x.invariant.4 (ne_eqb _ _ (λ e. w.0.left (c.wide.ensures ∙ e)))),
-    ))
-    c.if-wide-k.branch
+      rw (w.levels-is, w.many-is) (sifted-passed test most_groups l.loop-x.x l.loop-x.invariant.4 (ne_eqb _ _ (λ e. w.if-wide-k.false (c.wide.ensures ∙ e)))),
+    )
+    ]
 
 returns : tie.Need-returns invariant-loop-x decreases-loop-x
 returns c =

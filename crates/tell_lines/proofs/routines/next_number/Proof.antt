@@ -1,9 +1,11 @@
 -- The least of the first k numbers.
-use Rattle.exact.proofs.Ground.{⊎_elim, ltb→lt, lt-ltb, ◌≡◌, refl, ◌≤◌, ◌-◌, arith, length}
+use Rattle.exact.proofs.Ground.{ltb→lt, lt-ltb, ◌≡◌, refl, ◌≤◌, ◌-◌, arith, length}
 use Rattle.exact.proofs.Tests.{true-is, clash}
 use Rattle.tell_lines.proofs.Least.{LeastTo, least-none, least-lower, least-same, least-all}
 use Rattle.tell_lines.proofs.routines.next_number.Statement.{statement}
 use Rattle.tell_lines.proofs.routines.next_number.Tie as tie
+use Rattle.tell_lines.proofs.routines.next_number.Lts.{then-low-number+then-number-next, else-low-number}
+use Rattle.tell_lines.proofs.routines.next_number.Lts.{else-low-number-via-then-low-number+else-number-next, else-low-number-via-else-low-number}
 
 abbrev invariant-loop-k : tie.invariant-loop-k
 invariant-loop-k numbers low end next₀ k₀ k-end next k = (k ≤ length numbers) × (k-end ≡ length numbers) × LeastTo numbers low end k next
@@ -21,10 +23,15 @@ loop-again c =
     let xs = a.numbers.now in (
       omega arith,
       refl,
-      ⊎_elim (λ w. rw w.2 (least-lower xs a.low a.end l.loop-k.k l.loop-k.invariant.2 (omega arith) w.0.taken
-          (ltb→lt _ _ (true-is _ w.1.taken))))
-          (λ w. rw w.1 (least-same xs a.low a.end l.loop-k.k l.loop-k.invariant.2 (omega arith)
-          (⊎_elim (λ v b. clash _ (lt-ltb _ _ b.1) v.1.left) (λ v b. omega (arith, b.0, v.left)) w.0.came))) c.if-low-number.branch,
+      elim c.if-low-number.branch [
+      then-low-number+then-number-next w ↦ rw w.next-is (least-lower xs a.low a.end l.loop-k.k l.loop-k.invariant.2 (omega arith)
+          w.if-low-number.true w.if-number-next.true)
+      | else-low-number w ↦ rw w.next-is (least-same xs a.low a.end l.loop-k.k l.loop-k.invariant.2 (omega arith)
+          (elim w.else-low-number.branch [
+          else-low-number-via-then-low-number+else-number-next v ↦ λ b. let n = v.if-number-next.false in omega (arith, b.1)
+          | else-low-number-via-else-low-number v ↦ λ b. let n = v.if-low-number.false in omega (arith, b.0)
+          ]))
+      ],
     )
 
 returns : tie.Need-returns invariant-loop-k decreases-loop-k

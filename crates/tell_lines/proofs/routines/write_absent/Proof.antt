@@ -1,5 +1,5 @@
 -- The lines of the first x levels are put in.
-use Rattle.exact.proofs.Ground.{Bool, not, List, ⊎_elim, ℕ, ◌≡◌, ◌∙◌, sym, ap, refl, ◌≤◌, ◌-◌, arith, ◌∷◌, []}
+use Rattle.exact.proofs.Ground.{Bool, not, List, ℕ, ◌≡◌, ◌∙◌, sym, ap, refl, ◌≤◌, ◌-◌, arith, ◌∷◌, []}
 use Rattle.exact.specs.Lists.{holds}
 use Rattle.text.specs.Bytes.{bytes}
 use Rattle.text.proofs.Puts.{put-none, put-kept}
@@ -8,13 +8,14 @@ use Rattle.tell.specs.Evidence.{most_groups}
 use Rattle.tell_lines.proofs.Sifted.{PutKept, line-put, line-passed}
 use Rattle.tell_lines.proofs.routines.write_absent.Statement.{statement}
 use Rattle.tell_lines.proofs.routines.write_absent.Tie as tie
+use Rattle.tell_lines.proofs.routines.write_absent.Lts.{then-not-holds, else-not-holds}
 
 abbrev invariant-loop-x : tie.invariant-loop-x
-invariant-loop-x entries s room₀ at end₀ x₀ t8 room end x =
+invariant-loop-x entries s room₀ at end₀ x₀ room end x =
     (x ≤ s) × (s ≤ most_groups) × PutKept (λ y. not (holds y entries)) (λ y. line_of (bytes "absent") (y ∷ [])) 28 x at room₀ end room
 
 abbrev decreases-loop-x : tie.decreases-loop-x
-decreases-loop-x entries s room₀ at end₀ x₀ t8 room end x = s - x
+decreases-loop-x entries s room₀ at end₀ x₀ room end x = s - x
 
 loop-holds : tie.Need-loop-x-init invariant-loop-x decreases-loop-x
 loop-holds c =
@@ -38,8 +39,10 @@ loop-again c =
     let asks = ap not (sym c.holds.ensures) in (
       omega arith,
       l.loop-x.invariant.1,
-      ⊎_elim (λ w. rw (w.7, w.8) (line-put test line 28 l.loop-x.x (asks ∙ w.0.taken) l.loop-x.invariant.2 w.4.ensures))
-          (λ w. rw (w.1, w.2) (line-passed test line 28 l.loop-x.x (asks ∙ w.0.left) l.loop-x.invariant.2)) c.if-not-holds.branch,
+      elim c.if-not-holds.branch [
+      then-not-holds w ↦ rw (w.room-is, w.end-is) (line-put test line 28 l.loop-x.x (asks ∙ ap not w.if-not-holds.true) l.loop-x.invariant.2 w.write_line-end.ensures)
+      | else-not-holds w ↦ rw (w.room-is, w.end-is) (line-passed test line 28 l.loop-x.x (asks ∙ ap not w.if-not-holds.false) l.loop-x.invariant.2)
+      ],
     )
 
 returns : tie.Need-returns invariant-loop-x decreases-loop-x
@@ -57,7 +60,6 @@ write_absent_spec =
     decreases-loop-x
     loop-holds
     holds-requires
-    (λ c. refl)
     (λ c. refl)
     write-line-requires
     (λ c. omega arith)

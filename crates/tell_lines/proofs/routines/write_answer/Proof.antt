@@ -23,7 +23,7 @@ write-levels-requires : tie.Need-write_levels-grouped-requires
 write-levels-requires c κs =
     let w = c in
     let t = w in
-    let q = t.before.before.before.before.before.before.before.before.before.before.before.before.before.before in
+    let q = c.before.before.before.before.before.before.before.before.before.before.before.before.before.before in
     let P = q.write_asked-asked.ensures in
     let Q = t.write_told-told.ensures in
     let R = w.write_line-worded.ensures in
@@ -37,7 +37,7 @@ write-pairs-requires c κs =
     let l = c in
     let w = l in
     let t = w in
-    let q = t.before.before.before.before.before.before.before.before.before.before.before.before.before.before.before.before.before.before in
+    let q = c.before.before.before.before.before.before.before.before.before.before.before.before.before.before.before.before.before.before in
     let P = q.write_asked-asked.ensures in
     let Q = t.write_told-told.ensures in
     let R = w.write_line-worded.ensures in
@@ -69,7 +69,7 @@ write-split-requires c κs =
     let l = h in
     let w = l in
     let t = w in
-    let q = t.before.before.before.before.before.before.before.before.before.before.before.before.before.before.before.before.before.before.before.before.before.before in
+    let q = c.before.before.before.before.before.before.before.before.before.before.before.before.before.before.before.before.before.before.before.before.before.before in
     let P = q.write_asked-asked.ensures in
     let Q = t.write_told-told.ensures in
     let R = w.write_line-worded.ensures in
@@ -107,7 +107,7 @@ returns c =
     let l = h in
     let w = l in
     let t = w in
-    let q = t.before.before.before.before.before.before.before.before.before.before.before.before.before.before.before.before.before.before.before.before.before.before.before.before.before in
+    let q = c.before.before.before.before.before.before.before.before.before.before.before.before.before.before.before.before.before.before.before.before.before.before.before.before.before in
     let a = (start q).args in
     put_as (whole (given q) a.runs.now a.column a.others.now (start q).requires.0) (omega (arith, (joined q).few, (start q).requires.0.asked.sound.few))
     (put_both (put_both (put_both (put_both (put_both q.write_asked-asked.ensures t.write_told-told.ensures) w.write_line-worded.ensures) l.write_levels-grouped.ensures)
@@ -122,7 +122,6 @@ write_answer_spec =
     (tie.spec
     (λ c κs. search rules)
     (λ c κs. search rules)
-    (λ c. search rules)
     (λ c. search rules)
     (λ c κs. search rules)
     write-levels-requires

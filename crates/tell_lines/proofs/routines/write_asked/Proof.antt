@@ -13,8 +13,8 @@ start h = h.before.before.before
 shown : (h : tie.After-headed-fields) → take (length (start h).args.others.now + 1) h.headed-fields.result ≡ (start h).args.column ∷ (start h).args.others.now
 shown h = let a = (start h).args in row-front (a.column ∷ a.others.now) 25 (length a.others.now + 1) (omega arith) h.headed-fields.ensures
 
-slice-aggregate-write-line-2 : tie.Need-slice-aggregate-write-line-2
-slice-aggregate-write-line-2 c = omega (arith, ap length (shown c.before.before))
+slice-aggregate-write-line-2 : tie.Need-slice_bounds-write_line-end-2
+slice-aggregate-write-line-2 c = omega (arith, ap length (shown c.before.before.before))
 
 write-line-requires : tie.Need-write_line-requires
 write-line-requires c κs = let h = c.before.before.before.before in omega (arith, ap length (shown h), (start h).requires.0, (start h).requires.1)
@@ -33,7 +33,6 @@ write_asked_spec =
     tie.close
     (tie.spec
     (λ c κs. search rules)
-    (λ c. search rules)
     (λ c. search rules)
     (λ c. search rules)
     slice-aggregate-write-line-2

@@ -27,8 +27,8 @@ module _ (h : tie.After-cell_fields-fields) where
       let a = (start h).args in
       omega (arith, ap length shown, length-map a.others.now (entry (plan a.levels.now a.table.now) a.run))
 
-slice-aggregate-write-line-2 : tie.Need-slice-aggregate-write-line-2
-slice-aggregate-write-line-2 c = omega (arith, long c.before.before)
+slice-aggregate-write-line-2 : tie.Need-slice_bounds-write_line-end-2
+slice-aggregate-write-line-2 c = omega (arith, long c.before.before.before)
 
 write-line-requires : tie.Need-write_line-requires
 write-line-requires c κs = let h = c.before.before.before.before in omega (arith, long h, (start h).requires.1.0.few, (start h).requires.1.1)
@@ -47,7 +47,6 @@ write_cell_spec =
     tie.close
     (tie.spec
     (λ c κs. search rules)
-    (λ c. search rules)
     (λ c. search rules)
     (λ c. search rules)
     slice-aggregate-write-line-2

@@ -32,8 +32,8 @@ array-share-prefix-levels : tie.Need-slice_bounds-levels-end
 array-share-prefix-levels c =
     let h = c.before.before.before in rw (h.members_of-found.ensures.0, filled-length most_groups 0 (those h) (few h)) (omega (arith, h.members_of-found.ensures.1, few h))
 
-slice-aggregate-write-line-2 : tie.Need-slice-aggregate-write-line-2
-slice-aggregate-write-line-2 c = let h = c.before.before.before in omega (arith, ap length (shown h), h.members_of-found.ensures.1)
+slice-aggregate-write-line-2 : tie.Need-slice_bounds-write_line-end-2
+slice-aggregate-write-line-2 c = let h = c.before.before.before.before in omega (arith, ap length (shown h), h.members_of-found.ensures.1)
 
 write-line-requires : tie.Need-write_line-requires
 write-line-requires c κs = let h = c.before.before.before.before.before in omega (arith, ap length (shown h), few h, (start h).requires.1)
@@ -52,7 +52,6 @@ write_group_spec =
     tie.close
     (tie.spec
     (λ c κs. search rules)
-    (λ c. search rules)
     array-share-prefix-levels
     slice-aggregate-write-line-2
     write-line-requires

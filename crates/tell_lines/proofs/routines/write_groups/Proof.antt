@@ -1,5 +1,5 @@
 -- The lines of the groups named by the first x levels are put in.
-use Rattle.exact.proofs.Ground.{Bool, List, ⊎_elim, ◌&&◌, subst, ℕ, ◌≡◌, ◌∙◌, sym, ◌≤◌, ◌-◌, arith, eqb, eq-eqb, ne_eqb}
+use Rattle.exact.proofs.Ground.{Bool, List, ◌&&◌, subst, ℕ, ◌≡◌, ◌∙◌, sym, ◌≤◌, ◌-◌, arith, eqb, eq-eqb, ne_eqb}
 use Rattle.exact.specs.Lists.{holds}
 use Rattle.text.specs.Bytes.{bytes}
 use Rattle.text.proofs.Puts.{put-none, put-kept}
@@ -9,6 +9,8 @@ use Rattle.tell_lines.specs.Parts.{members_of}
 use Rattle.tell_lines.proofs.Sifted.{PutKept, line-put, line-passed, and-true, left_false, right-false}
 use Rattle.tell_lines.proofs.routines.write_groups.Statement.{statement}
 use Rattle.tell_lines.proofs.routines.write_groups.Tie as tie
+use Rattle.tell_lines.proofs.routines.write_groups.Lts.{then-wide-x+then-holds, else-wide-x}
+use Rattle.tell_lines.proofs.routines.write_groups.Lts.{else-wide-x-via-then-wide-x+else-holds, else-wide-x-via-else-wide-x}
 
 abbrev invariant-loop-x : tie.invariant-loop-x
 invariant-loop-x entries s room₀ at groups end₀ x₀ room end x =
@@ -41,15 +43,19 @@ loop-again : tie.Need-loop-x-preserved invariant-loop-x decreases-loop-x
 loop-again c =
     let l = c in
     let a = l.args in
-    let test : ℕ → Bool = λ y. eqb (group_of a.t1 y) y && holds y a.entries.now in
-    let line : ℕ → List ℕ = λ k. line_of (bytes "group") (members_of a.t1 a.s k) in (
+    let test : ℕ → Bool = λ y. eqb (group_of a.groups y) y && holds y a.entries.now in
+    let line : ℕ → List ℕ = λ k. line_of (bytes "group") (members_of a.groups a.s k) in (
       omega arith,
       l.loop-x.invariant.1,
-      ⊎_elim (λ w. rw (w.7, w.8) (line-put test line 342 l.loop-x.x
-          (and-true _ _ (eq-eqb _ _ (sym c.wide.ensures ∙ w.0.taken)) (sym w.1.ensures ∙ w.2.taken)) l.loop-x.invariant.2 w.4.ensures))
-          (λ w. rw (w.1, w.2) (line-passed test line 342 l.loop-x.x
-          (⊎_elim (λ v. right-false _ _ (eq-eqb _ _ (sym c.wide.ensures ∙ v.0.taken)) (sym v.1.ensures ∙ v.2.left))
-          (λ v. left_false _ _ (ne_eqb _ _ (λ e. v.left (c.wide.ensures ∙ e)))) w.0.came) l.loop-x.invariant.2)) c.if-wide-x.branch,
+      elim c.if-wide-x.branch [
+      then-wide-x+then-holds w ↦ rw (w.room-is, w.end-is) (line-put test line 342 l.loop-x.x
+          (and-true _ _ (eq-eqb _ _ (sym c.wide.ensures ∙ w.if-wide-x.true)) (sym w.holds.ensures ∙ w.if-holds.true)) l.loop-x.invariant.2 w.write_group-end.ensures)
+      | else-wide-x w ↦ rw (w.room-is, w.end-is) (line-passed test line 342 l.loop-x.x
+          (elim w.else-wide-x.branch [
+          else-wide-x-via-then-wide-x+else-holds v ↦ right-false _ _ (eq-eqb _ _ (sym c.wide.ensures ∙ v.if-wide-x.true)) (sym v.holds.ensures ∙ v.if-holds.false)
+          | else-wide-x-via-else-wide-x v ↦ left_false _ _ (ne_eqb _ _ (λ e. v.if-wide-x.false (c.wide.ensures ∙ e)))
+          ]) l.loop-x.invariant.2)
+      ],
     )
 
 returns : tie.Need-returns invariant-loop-x decreases-loop-x
@@ -57,8 +63,8 @@ returns c =
     let l = c.loop-x in
     let a = c.args in
     let e : l.x ≡ a.s = omega arith in
-    subst (λ n. PutKept (λ y. eqb (group_of a.t1 y) y && holds y a.entries.now) (λ k. line_of (bytes "group") (members_of a.t1 a.s k)) 342 n
-    a.at a.room.now l.end l.room-1) e l.invariant.2
+    subst (λ n. PutKept (λ y. eqb (group_of a.groups y) y && holds y a.entries.now) (λ k. line_of (bytes "group") (members_of a.groups a.s k)) 342 n
+    a.at a.room.now l.end l.room) e l.invariant.2
 
 same_length : tie.Need-shape_of-room invariant-loop-x decreases-loop-x
 same_length c = put-kept (returns c)

@@ -69,7 +69,7 @@ returns c =
     let e : run h ≡ get_or a.runs.now (place_of (numbers_of p a.runs.now a.others.now) a.number) 0 =
     ap (λ i. get_or a.runs.now i 0) (h.place_of.ensures ∙ ap (λ ns. place_of ns a.number) (start h).requires.0.are) in
     put_as (ap₂ (cell_line_of p a.others.now) (w.wide.ensures
-    ∙ ap (group_of a.t6) (w.entry_at-level.ensures ∙ ap (λ f. entry p f a.column) e)) e) (omega arith) w.write_cell.ensures
+    ∙ ap (group_of a.groups) (w.entry_at-level.ensures ∙ ap (λ f. entry p f a.column) e)) e) (omega arith) w.write_cell.ensures
 
 same_length : tie.Need-shape_of-room
 same_length c = put-kept (returns c)

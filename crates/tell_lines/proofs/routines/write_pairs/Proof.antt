@@ -10,11 +10,11 @@ use Rattle.tell_lines.proofs.routines.write_pairs.Statement.{statement}
 use Rattle.tell_lines.proofs.routines.write_pairs.Tie as tie
 
 abbrev invariant-loop-k : tie.invariant-loop-k
-invariant-loop-k levels table column room₀ at left right end₀ k₀ t16 k-end room end k =
+invariant-loop-k levels table column room₀ at left right end₀ k₀ k-end room end k =
     (k ≤ k-end) × PutEach (pair_line_at (plan levels table) column left right) 89 k at room₀ end room
 
 abbrev decreases-loop-k : tie.decreases-loop-k
-decreases-loop-k levels table column room₀ at left right end₀ k₀ t16 k-end room end k = k-end - k
+decreases-loop-k levels table column room₀ at left right end₀ k₀ k-end room end k = k-end - k
 
 abbrev start : tie.At-loop-k invariant-loop-k decreases-loop-k → tie.Start invariant-loop-k decreases-loop-k
 start l = l.before.before.before.before.before.before
@@ -78,7 +78,6 @@ write_pairs_spec =
     array-read-g
     entry-at-requires
     entry-at-requires-2
-    (λ c. refl)
     (λ c. refl)
     write-line-requires
     (λ c. omega arith)

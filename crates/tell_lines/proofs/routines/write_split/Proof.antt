@@ -19,12 +19,12 @@ module _ (k : tie.After-numbers_of-row) where
   numbers : length (numbers_of given (start k).args.runs.now (start k).args.others.now) ≡ length (start k).args.runs.now
   numbers = length-map (start k).args.runs.now (λ f. number_of (level given) (entry given) f (start k).args.others.now)
 
-  lent : take (length (start k).args.runs.now) k.Numbers-of.result ≡ numbers_of given (start k).args.runs.now (start k).args.others.now
+  lent : take (length (start k).args.runs.now) k.numbers_of-row.result ≡ numbers_of given (start k).args.runs.now (start k).args.others.now
   lent =
       row-front (numbers_of given (start k).args.runs.now (start k).args.others.now) 256 (length (start k).args.runs.now) (sym numbers)
-      k.Numbers-of.ensures
+      k.numbers_of-row.ensures
 
-  long : length (start k).args.runs.now ≡ length (take (length (start k).args.runs.now) k.Numbers-of.result)
+  long : length (start k).args.runs.now ≡ length (take (length (start k).args.runs.now) k.numbers_of-row.result)
   long = sym (ap length lent ∙ numbers)
 
 returns : tie.Need-returns-then-tells

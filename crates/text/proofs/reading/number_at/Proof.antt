@@ -11,7 +11,7 @@ returns c =
     let text = a.text.now in
     let place : get_or text (a.at + 0) 0 ≡ get_or text a.at 0 = ap (λ k. get_or text k 0) (add-zero a.at) in
     rw (get_or-drop a.at text 0 0, get_or-drop a.at text 1 0, place)
-    (c.number_of_lem.ensures ∙ ap₂ number_of c.byte_at.ensures c.byte_at-2.ensures)
+    (c.number_of.ensures ∙ ap₂ number_of c.byte_at.ensures c.byte_at-2.ensures)
 
 pub number_at_spec : {M : Type 1} → statement M
 number_at_spec =

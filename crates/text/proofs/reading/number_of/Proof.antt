@@ -1,24 +1,24 @@
 -- Each return is the case of the definition that the tests before it name.
-use Rattle.exact.proofs.Ground.{true, ◌≡◌, ◌∙◌, sym, arith, rules, ne_eqb, eq-eqb, not-true, not-false}
+use Rattle.exact.proofs.Ground.{true, ◌≡◌, ◌∙◌, sym, arith, rules, ne_eqb, eq-eqb}
 use Rattle.text.specs.Text.{is_digit}
 use Rattle.text.proofs.Digits.{digit-is}
 use Rattle.text.proofs.reading.number_of.Statement.{statement}
 use Rattle.text.proofs.reading.number_of.Tie as tie
 
 returns : tie.Need-returns-then-not-is_digit
-returns c = rw (sym c.is_digit.ensures ∙ not-true _ c.if-not-is_digit.true)
+returns c = rw (sym c.is_digit.ensures ∙ c.if-not-is_digit.true)
 
 one-digit : (c : tie.Else-not-is_digit) → is_digit c.args.first ≡ true
-one-digit c = sym c.is_digit.ensures ∙ not-false _ c.if-not-is_digit.false
+one-digit c = sym c.is_digit.ensures ∙ c.if-not-is_digit.false
 
 two_digits : (c : tie.Else-not-is_digit-2) → is_digit c.args.second ≡ true
-two_digits c = sym c.is_digit-2.ensures ∙ not-false _ c.if-not-is_digit-2.false
+two_digits c = sym c.is_digit-2.ensures ∙ c.if-not-is_digit-2.false
 
 sub-t5 : tie.Need-overflow_sub-result
 sub-t5 c = (digit-is _ (one-digit c.before.before)).0
 
 returns-2 : tie.Need-returns-then-not-is_digit-2
-returns-2 c = rw (one-digit c.before.before, sym c.is_digit-2.ensures ∙ not-true _ c.if-not-is_digit-2.true)
+returns-2 c = rw (one-digit c.before.before, sym c.is_digit-2.ensures ∙ c.if-not-is_digit-2.true)
 
 returns-3 : tie.Need-returns-then-first-eq-ZERO
 returns-3 c = rw (one-digit c.before.before.before, two_digits c.before, eq-eqb _ 48 c.if-first-eq-ZERO.true)

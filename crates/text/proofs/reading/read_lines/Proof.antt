@@ -17,7 +17,7 @@ malformed-in-requires : tie.Need-malformed_in-requires invariant-loop-at decreas
 malformed-in-requires c κs = tt
 
 same_length : tie.Need-shape_of-numbers-then-at-eq0 invariant-loop-at decreases-loop-at
-same_length c = c.read_line-levels.auto.1.1.0
+same_length c = c.read_line-levels.auto.numbers
 
 returns : tie.Need-returns-then-at-eq0 invariant-loop-at decreases-loop-at
 returns c =
@@ -36,12 +36,12 @@ malformed-in-requires-2 c κs = tt
 -- the room is as long as at entry
 room-kept : (c : tie.At-loop-at invariant-loop-at decreases-loop-at) →
     length c.loop-at.numbers ≡ length c.args.numbers.now
-room-kept c = c.loop-at.invariant.1 ∙ c.read_line-levels.auto.1.1.0
+room-kept c = c.loop-at.invariant.1 ∙ c.read_line-levels.auto.numbers
 
 same-length-2 : tie.Need-shape_of-numbers-then-at-eq0-2 invariant-loop-at decreases-loop-at
 same-length-2 c =
     let r = c in
-    r.read_line-run.auto.1.1.0 ∙ room-kept r.before.before.before.before.before.before.before
+    r.read_line-run.auto.numbers ∙ room-kept r.before.before.before.before.before.before.before
 
 returns-2 : tie.Need-returns-then-at-eq0-2 invariant-loop-at decreases-loop-at
 returns-2 c =
@@ -56,7 +56,7 @@ add-if3 c =
     let r = c in
     let l = r.before.before.before.before.before.before in
     let s = l in
-    omega (arith, l.loop-at.invariant.0.begun, l.loop-at.invariant.0.roomy, room-kept l, s.well-formed)
+    omega (arith, l.loop-at.invariant.0.begun, l.loop-at.invariant.0.roomy, room-kept l, s.well_formed)
 
 malformed-in-requires-3 : tie.Need-malformed_in-requires-then-run-count invariant-loop-at decreases-loop-at
 malformed-in-requires-3 c κs = tt
@@ -64,7 +64,7 @@ malformed-in-requires-3 c κs = tt
 same-length-3 : tie.Need-shape_of-numbers-then-run-count invariant-loop-at decreases-loop-at
 same-length-3 c =
     let r = c in
-    r.read_line-run.auto.1.1.0 ∙ room-kept r.before.before.before.before.before.before.before.before.before
+    r.read_line-run.auto.numbers ∙ room-kept r.before.before.before.before.before.before.before.before.before
 
 returns-3 : tie.Need-returns-then-run-count invariant-loop-at decreases-loop-at
 returns-3 c =
@@ -81,14 +81,14 @@ loop-again c =
     let l = r in
     let there : 0 < r.read_line-run.result.next = let n = c.if-at-eq0-2.false in omega arith in (
       next-read l.loop-at.invariant.0 r.read_line-run.ensures there c.if-run-count.false,
-      r.read_line-run.auto.1.1.0 ∙ l.loop-at.invariant.1,
+      r.read_line-run.auto.numbers ∙ l.loop-at.invariant.1,
     )
 
 add-line : tie.Need-overflow_add-line invariant-loop-at decreases-loop-at
 add-line c =
     let l = c in
     let s = l in
-    omega (arith, l.loop-at.invariant.0.few, l.loop-at.invariant.0.roomy.inside, s.well-formed)
+    omega (arith, l.loop-at.invariant.0.few, l.loop-at.invariant.0.roomy.inside, s.well_formed)
 
 loop-less : tie.Need-loop-at-smaller invariant-loop-at decreases-loop-at
 loop-less c =

@@ -40,7 +40,7 @@ first c =
 loop-holds : tie.Need-loop-i-init invariant-loop-i decreases-loop-i
 loop-holds c =
     let w = c.write_number-end in
-    (omega arith, (start c).requires.0.some, put-none w.result w.new.room (omega (arith, (first c).ranges, (first c).behind, put-kept (first c))))
+    (omega arith, (start c).requires.0.some, put-none w.result w.new.room (omega (arith, (first c).fits, (first c).behind, put-kept (first c))))
 
 -- the room that is left at a turn
 left : (c : tie.After-slice_known-2-1 invariant-loop-i decreases-loop-i) (i : ℕ) {end : ℕ} {room : List ℕ} →

@@ -1,0 +1,5 @@
+-- The number falls to its tenth.
+use Rattle.text.proofs.routines.+write_number.Given as goal
+
+abbrev pub decreases-write_number : goal.decreases-write_number
+decreases-write_number l = l.n
