@@ -43,7 +43,9 @@ pub fn text_room() -> [u8; TEXT_ROOM]
 }
 
 fn read_once<R: io::Read>(reader: &mut R, room: &mut [u8]) -> Read
-    ensures { IsPrefixLen result.size room.new }
+    ensures fits { IsPrefixLen result.size room.new }
+    ensures taken { Consumes (R.remaining reader.old) (R.remaining reader.new) (take result.size room.new) }
+    ensures whole { IsNone result.failed → result.size ≡ 0 → 0 < length room.new → IsAtEnd (R.remaining reader.new) }
 {
     match reader.read(room) {
         Ok(size) => Read { size, failed: None },
@@ -54,9 +56,11 @@ fn read_once<R: io::Read>(reader: &mut R, room: &mut [u8]) -> Read
     }
 }
 
-// Reads until the room is full, the input ends or a read fails.
+// Reads until the room is full, the input ends or a read fails. What the reader gave stands in front of the room, also where a read failed.
 pub fn read_text<R: io::Read>(reader: &mut R, room: &mut [u8]) -> Read
-    ensures { IsPrefixLen result.size room.new }
+    ensures fits { IsPrefixLen result.size room.new }
+    ensures taken { Consumes (R.remaining reader.old) (R.remaining reader.new) (take result.size room.new) }
+    ensures whole { IsNone result.failed → result.size < length room.new → IsAtEnd (R.remaining reader.new) }
 {
     let mut size = 0;
     while size < room.len() {
