@@ -11,6 +11,9 @@ const ZERO: u8 = 48;
 
 const NINE: u8 = 57;
 
+// The system opens no longer path.
+pub const MOST_PATH: usize = 4096;
+
 // No plan has so many runs or columns.
 const NO_NUMBER: usize = 1000;
 
