@@ -1,12 +1,18 @@
 // The arguments of a program: runs and columns, by number, and words.
 ghost use Rattle.std.specs.Prelude.{◌≡◌, ◌≤◌, length};
-ghost use Rattle.io.specs.Counts.{IsPrefixLen};
 ghost use Rattle.rules.specs.Plan.{most_runs};
 ghost use Rattle.console.specs.Arguments.{number_named};
+ghost use Rattle.console.specs.Counts.{IsPrefixLen};
+
+use std::env::FillError;
+use std::rt::Env;
 
 const ZERO: u8 = 48;
 
 const NINE: u8 = 57;
+
+// The system opens no longer path.
+pub const MOST_PATH: usize = 4096;
 
 // No plan has so many runs or columns.
 const NO_NUMBER: usize = 1000;
@@ -42,70 +48,71 @@ fn number_named(bytes: &[u8]) -> usize
 }
 
 // The number named by one argument; there is none where the argument is missing or longer than eight bytes.
-pub fn number_at(argument: usize) -> usize {
+pub fn number_at<A: Env>(env: &A, argument: usize) -> usize {
     let mut bytes = [0u8; 8];
-    let size = os::arg(argument, &mut bytes);
-    if os::errno() != 0 {
-        return NO_NUMBER;
+    match env.arg(argument, &mut bytes) {
+        Ok(size) => number_named(&bytes[..size]),
+        Err(_) => NO_NUMBER,
     }
-    number_named(&bytes[..size])
 }
 
 // The numbers named by the arguments from `first` on and before `end`, into the room, and how many they are. Arguments that the room does
 // not hold are passed over.
-pub fn numbers_at(first: usize, end: usize, room: &mut [usize]) -> usize
+pub fn numbers_at<A: Env>(env: &A, first: usize, end: usize, room: &mut [usize]) -> usize
     ensures { IsPrefixLen result room.new }
 {
     let mut count = 0;
     let mut argument = first;
     while count < room.len() && argument < end {
-        room[count] = number_at(argument);
+        room[count] = number_at(env, argument);
         count += 1;
         argument += 1;
     }
     count
 }
 
-// The place of the argument `--`, and the number of arguments where there is none.
-pub fn dashes() -> usize {
-    let arguments = os::arg_count();
-    let mut k = 1;
-    while k < arguments {
-        if is_dashes(k) {
+// How many arguments there are, with the name of the program as the first.
+pub fn argument_count<A: Env>(env: &A) -> usize {
+    for k in 0..usize::MAX {
+        if let Err(FillError::NotPresent) = env.arg(k, &mut []) {
             return k;
         }
-        k += 1;
+    }
+    usize::MAX
+}
+
+// The place of the argument `--`, and the number of arguments where there is none.
+pub fn dashes<A: Env>(env: &A) -> usize {
+    let arguments = argument_count(env);
+    for k in 1..arguments {
+        if is_dashes(env, k) {
+            return k;
+        }
     }
     arguments
 }
 
-fn is_dashes(argument: usize) -> bool {
-    is_word(argument, b"--")
+fn is_dashes<A: Env>(env: &A, argument: usize) -> bool {
+    is_word(env, argument, b"--")
 }
 
 // Whether the argument is this word of eight bytes at most.
-pub fn is_word(argument: usize, word: &[u8]) -> bool {
+pub fn is_word<A: Env>(env: &A, argument: usize, word: &[u8]) -> bool {
     let mut bytes = [0u8; 8];
-    let size = os::arg(argument, &mut bytes);
-    if size != word.len() {
-        return false;
+    match env.arg(argument, &mut bytes) {
+        Ok(size) => &bytes[..size] == word,
+        Err(_) => false,
     }
-    for i in 0..size {
-        if bytes[i] != word[i] {
-            return false;
-        }
-    }
-    true
 }
 
 // The runs named behind the argument at this place, into a room for as many as a plan has runs: more than these are refused by then.
-pub fn lost_runs(dashes: usize, runs: &mut [usize]) -> usize
+pub fn lost_runs<A: Env>(env: &A, dashes: usize, runs: &mut [usize]) -> usize
     requires { most_runs ≤ length runs.old }
     ensures { IsPrefixLen result runs.new }
 {
-    let arguments = os::arg_count();
+    let arguments = argument_count(env);
     if arguments <= dashes {
         return 0;
     }
-    numbers_at(dashes + 1, arguments, runs)
+    numbers_at(env, dashes + 1, arguments, runs)
 }

@@ -1,16 +1,17 @@
 // Reads plan text and writes its listing.
 #![tactic(auto)]
 
-use libc::STDIN_FILENO;
 use listing_lines::MOST_BYTES;
 use listing_lines::routines::write_listing;
 use rules::Refusal;
 
-fn main() {
+fn main(rt: HostRuntime) {
+    let mut output = rt.stdout();
+    let mut errors = rt.stderr();
     let mut text = console::text_room();
-    let read = console::read_text(STDIN_FILENO, &mut text);
-    if read.failed {
-        console::not_read();
+    let read = console::read_text(&mut rt.stdin(), &mut text);
+    if let Some(error) = read.failed {
+        console::not_read(&mut errors, &error);
         return;
     }
     let size = read.size;
@@ -18,8 +19,8 @@ fn main() {
     let bytes = write_listing(&text[..size], &mut lines);
     let refused: Refusal = console::refusal_of(&text[..size]);
     if refused.number != 0 {
-        console::refuse(&lines[..bytes], &text[..size], refused);
+        console::refuse(&mut output, &mut errors, &lines[..bytes], &text[..size], refused);
         return;
     }
-    console::write(&lines[..bytes]);
+    console::write(&mut output, &mut errors, &lines[..bytes]);
 }

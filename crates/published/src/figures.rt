@@ -2,16 +2,17 @@
 use crate::lines::{field, line, put, refusal_line};
 use exact::fractions::Fraction;
 use resolution::Figure;
+use std::io::Write;
 
-pub(crate) fn generalized(levels: &[u8], table: &[u8]) {
+pub(crate) fn generalized<W: Write>(output: &mut W, levels: &[u8], table: &[u8]) {
     let answer = resolution::generalized(levels, table);
     let refused = answer.refused;
     if refused.number == 11 {
-        line(b"gr none", &[]);
+        line(output, b"gr none", &[]);
         return;
     }
     if refused.number != 0 {
-        refusal_line(refused);
+        refusal_line(output, refused);
         return;
     }
     let ratio: Fraction = answer.ratio;
@@ -21,22 +22,22 @@ pub(crate) fn generalized(levels: &[u8], table: &[u8]) {
         ratio.den,
         answer.thousandths,
     ];
-    line(b"gr", &numbers);
+    line(output, b"gr", &numbers);
 }
 
-fn column(levels: &[u8], table: &[u8], i: usize) {
+fn column<W: Write>(output: &mut W, levels: &[u8], table: &[u8], i: usize) {
     let answer = resolution::column_figure(levels, table, i);
     let figure = answer.figure;
-    put(b"column");
-    field(i as u64);
+    put(output, b"column");
+    field(output, i as u64);
     match figure {
-        Figure::Ratio(_) => put(b" some\n"),
-        Figure::Clear => put(b" clear\n"),
+        Figure::Ratio(_) => put(output, b" some\n"),
+        Figure::Clear => put(output, b" clear\n"),
     }
 }
 
-pub(crate) fn columns(levels: &[u8], table: &[u8]) {
+pub(crate) fn columns<W: Write>(output: &mut W, levels: &[u8], table: &[u8]) {
     for i in 0..levels.len() {
-        column(levels, table, i);
+        column(output, levels, table, i);
     }
 }

@@ -1,25 +1,25 @@
 // A line of output: its name, its numbers, byte 10.
-use libc::STDOUT_FILENO;
 use rules::Refusal;
+use std::io::Write;
 
-pub(crate) fn put(bytes: &[u8]) {
-    io::write_all(STDOUT_FILENO, bytes);
+// What cannot be written is passed over.
+pub(crate) fn put<W: Write>(output: &mut W, bytes: &[u8]) {
+    let _ = output.write_all(bytes);
 }
 
-pub(crate) fn field(number: u64) {
-    put(b" ");
-    io::print_decimal(STDOUT_FILENO, number);
+pub(crate) fn field<W: Write>(output: &mut W, number: u64) {
+    let _ = write!(output, " {number}");
 }
 
-pub(crate) fn line(name: &[u8], numbers: &[u64]) {
-    put(name);
+pub(crate) fn line<W: Write>(output: &mut W, name: &[u8], numbers: &[u64]) {
+    put(output, name);
     for k in 0..numbers.len() {
-        field(numbers[k]);
+        field(output, numbers[k]);
     }
-    put(b"\n");
+    put(output, b"\n");
 }
 
-pub(crate) fn refusal_line(refused: Refusal) {
+pub(crate) fn refusal_line<W: Write>(output: &mut W, refused: Refusal) {
     let numbers = [refused.number, refused.first as u64, refused.second as u64];
-    line(b"refused", &numbers);
+    line(output, b"refused", &numbers);
 }

@@ -10,57 +10,64 @@
 // Where a source names an array and does not print it, docs/PUBLISHED.md says how this one was made.
 #![tactic(auto)]
 
+use console::arguments::{MOST_PATH, argument_count};
 use figures::{columns, generalized};
 use lines::{put, refusal_line};
 use rules::sizes::{MOST_COLUMNS, MOST_ENTRIES};
+use std::io::Write;
+use std::rt::{Env, Files};
 use tables::tables;
 
 mod figures;
 mod lines;
 mod tables;
 
-fn show_plan(name: &[u8], levels: &[u8], table: &[u8]) {
-    put(b"array ");
-    put(name);
-    put(b"\n");
-    tables(levels, table);
-    generalized(levels, table);
-    columns(levels, table);
+fn show_plan<W: Write>(output: &mut W, name: &[u8], levels: &[u8], table: &[u8]) {
+    put(output, b"array ");
+    put(output, name);
+    put(output, b"\n");
+    tables(output, levels, table);
+    generalized(output, levels, table);
+    columns(output, levels, table);
 }
 
-fn show_text(name: &[u8], text: &[u8]) {
+fn show_text<W: Write>(output: &mut W, name: &[u8], text: &[u8]) {
     let mut levels = [0u8; MOST_COLUMNS];
     let mut table = [0u8; MOST_ENTRIES];
     let answer = text::read(text, &mut levels, &mut table);
     let refused = answer.refused;
     if refused.number != 0 {
-        refusal_line(refused);
+        refusal_line(output, refused);
         return;
     }
     let m = answer.columns;
     let entries = answer.runs * m;
-    show_plan(name, &levels[..m], &table[..entries]);
+    show_plan(output, name, &levels[..m], &table[..entries]);
 }
 
-fn show_file(argument: usize) {
-    let mut path = io::buffer();
-    let length = os::arg(argument, &mut path);
-    if os::errno() != 0 {
+fn show_file<R: Env + Files, O: Write, E: Write>(
+    rt: &R,
+    output: &mut O,
+    errors: &mut E,
+    argument: usize,
+) {
+    let mut path = [0u8; MOST_PATH];
+    let Ok(length) = rt.arg(argument, &mut path) else {
         return;
-    }
+    };
     let name = &path[..length];
     let mut text = console::text_room();
-    let read = console::read_file(name, &mut text);
-    if read.failed {
+    let read = console::read_file(rt, errors, name, &mut text);
+    if read.failed.is_some() {
         return;
     }
     let size = read.size;
-    show_text(name, &text[..size]);
+    show_text(output, name, &text[..size]);
 }
 
-fn main() {
-    let n = os::arg_count();
+fn main(rt: HostRuntime) {
+    let n = argument_count(&rt);
     for i in 1..n {
-        show_file(i);
+        show_file(&rt, &mut rt.stdout(), &mut rt.stderr(), i);
     }
 }

@@ -3,56 +3,62 @@
 #![tactic(auto)]
 
 ghost use Rattle.std.specs.Prelude.{◌≡◌, ◌≤◌, length};
-ghost use Rattle.io.specs.Counts.{IsPrefixLen};
+ghost use Rattle.console.specs.Counts.{IsPrefixLen};
 ghost use Rattle.rules.specs.Plan.{most_runs};
 ghost use Rattle.writer.specs.Writer.{most_of_text};
 ghost use Rattle.standing_text.specs.StandingText.{rewrite_answer};
 
-use console::arguments::numbers_at;
+use console::arguments::{argument_count, numbers_at};
 use console::lines::{line_after, lines_end};
 use console::{say, say_number};
-use libc::STDIN_FILENO;
 use rules::Refusal;
 use rules::sizes::MOST_RUNS;
 use standing_text::TextAnswer;
+use std::io::Write;
+use std::rt::Env;
 use writer::MOST_BYTES;
 
-fn show_refusal(refused: Refusal, text: &[u8]) {
+fn show_refusal<O: Write, E: Write>(
+    output: &mut O,
+    errors: &mut E,
+    refused: Refusal,
+    text: &[u8],
+) {
     let mut line = [0u8; 71];
     let size = lines::refusal_line(refused, &mut line);
-    console::refuse(&line[..size], text, refused);
+    console::refuse(output, errors, &line[..size], text, refused);
 }
 
 // The line of a run ends with byte 10, as every line of an accepted text, and so ends what is said.
-fn say_run(run: usize, lines: &[u8]) {
-    say(b"lost");
-    say_number(run as u64);
-    say(b" ");
-    say(line_after(lines, run));
+fn say_run<E: Write>(errors: &mut E, run: usize, lines: &[u8]) {
+    say(errors, b"lost");
+    say_number(errors, run as u64);
+    say(errors, b" ");
+    say(errors, line_after(lines, run));
 }
 
-fn say_lost(runs: &[usize], text: &[u8]) {
+fn say_lost<E: Write>(errors: &mut E, runs: &[usize], text: &[u8]) {
     let levels = lines_end(text, 1);
     let lines = &text[levels..];
     for k in 0..runs.len() {
-        say_run(runs[k], lines);
+        say_run(errors, runs[k], lines);
     }
 }
 
-fn say_left(runs: &[usize]) {
-    say(b"runs");
+fn say_left<E: Write>(errors: &mut E, runs: &[usize]) {
+    say(errors, b"runs");
     for k in 0..runs.len() {
-        say_number(runs[k] as u64);
+        say_number(errors, runs[k] as u64);
     }
-    say(b"\n");
+    say(errors, b"\n");
 }
 
 // The runs named by the arguments, into a room for as many as a plan has runs, and how many they are.
-fn lost_runs(runs: &mut [usize]) -> usize
+fn lost_runs<A: Env>(env: &A, runs: &mut [usize]) -> usize
     requires { most_runs ≤ length runs.old }
     ensures { IsPrefixLen result runs.new }
 {
-    numbers_at(1, os::arg_count(), runs)
+    numbers_at(env, 1, argument_count(env), runs)
 }
 
 // The text without the lost runs, in rooms for the longest text and for all runs of a plan.
@@ -65,13 +71,15 @@ fn rewritten(text: &[u8], lost: &[usize], room: &mut [u8], numbers: &mut [usize]
 }
 
 // A plan has at most 256 runs, so that more arguments than that are refused by then.
-fn main() {
+fn main(rt: HostRuntime) {
+    let mut output = rt.stdout();
+    let mut errors = rt.stderr();
     let mut lost = [0usize; MOST_RUNS];
-    let losses = lost_runs(&mut lost);
+    let losses = lost_runs(&rt, &mut lost);
     let mut text = console::text_room();
-    let read = console::read_text(STDIN_FILENO, &mut text);
-    if read.failed {
-        console::not_read();
+    let read = console::read_text(&mut rt.stdin(), &mut text);
+    if let Some(error) = read.failed {
+        console::not_read(&mut errors, &error);
         return;
     }
     let size = read.size;
@@ -80,13 +88,13 @@ fn main() {
     let answer = rewritten(&text[..size], &lost[..losses], &mut room, &mut numbers);
     let refused = answer.refused;
     if refused.number != 0 {
-        show_refusal(refused, &text[..size]);
+        show_refusal(&mut output, &mut errors, refused, &text[..size]);
         return;
     }
     let bytes = answer.bytes;
     let runs = answer.runs;
-    if console::write(&room[..bytes]) && losses != 0 {
-        say_lost(&lost[..losses], &text[..size]);
-        say_left(&numbers[..runs]);
+    if console::write(&mut output, &mut errors, &room[..bytes]) && losses != 0 {
+        say_lost(&mut errors, &lost[..losses], &text[..size]);
+        say_left(&mut errors, &numbers[..runs]);
     }
 }

@@ -1,29 +1,36 @@
 // The listing of each text that an argument names, one after the other.
 #![tactic(auto)]
 
+use console::arguments::{MOST_PATH, argument_count};
 use listing_lines::MOST_BYTES;
+use std::io::Write;
+use std::rt::{Env, Files};
 
-fn list(argument: usize) {
-    let mut path = io::buffer();
-    let length = os::arg(argument, &mut path);
-    if os::errno() != 0 {
+fn list<R: Env + Files, O: Write, E: Write>(
+    rt: &R,
+    output: &mut O,
+    errors: &mut E,
+    argument: usize,
+) {
+    let mut path = [0u8; MOST_PATH];
+    let Ok(length) = rt.arg(argument, &mut path) else {
         return;
-    }
+    };
     let mut text = console::text_room();
-    let read = console::read_file(&path[..length], &mut text);
-    if read.failed {
+    let read = console::read_file(rt, errors, &path[..length], &mut text);
+    if read.failed.is_some() {
         return;
     }
     let size = read.size;
     let mut lines = [0u8; MOST_BYTES];
     let answer = listing_lines::listing(&text[..size], &mut lines);
     let bytes = answer.bytes;
-    console::write(&lines[..bytes]);
+    console::write(output, errors, &lines[..bytes]);
 }
 
-fn main() {
-    let n = os::arg_count();
+fn main(rt: HostRuntime) {
+    let n = argument_count(&rt);
     for i in 1..n {
-        list(i);
+        list(&rt, &mut rt.stdout(), &mut rt.stderr(), i);
     }
 }

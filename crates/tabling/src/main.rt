@@ -3,21 +3,22 @@
 #![tactic(auto)]
 
 use console::arguments::{dashes, is_word, lost_runs, number_at};
-use libc::STDIN_FILENO;
 use lines::Written;
 use rules::sizes::MOST_RUNS;
 use table_text::routines::write_text;
 
-fn main() {
-    let end = dashes();
-    let f = number_at(1);
-    let relative = is_word(2, b"relative");
+fn main(rt: HostRuntime) {
+    let mut output = rt.stdout();
+    let mut errors = rt.stderr();
+    let end = dashes(&rt);
+    let f = number_at(&rt, 1);
+    let relative = is_word(&rt, 2, b"relative");
     let mut lost = [0usize; MOST_RUNS];
-    let losses = lost_runs(end, &mut lost);
+    let losses = lost_runs(&rt, end, &mut lost);
     let mut text = console::text_room();
-    let read = console::read_text(STDIN_FILENO, &mut text);
-    if read.failed {
-        console::not_read();
+    let read = console::read_text(&mut rt.stdin(), &mut text);
+    if let Some(error) = read.failed {
+        console::not_read(&mut errors, &error);
         return;
     }
     let size = read.size;
@@ -26,8 +27,8 @@ fn main() {
     let bytes = answer.bytes;
     let refused = answer.refused;
     if refused.number != 0 {
-        console::refuse(&lines[..bytes], &text[..size], refused);
+        console::refuse(&mut output, &mut errors, &lines[..bytes], &text[..size], refused);
         return;
     }
-    console::write(&lines[..bytes]);
+    console::write(&mut output, &mut errors, &lines[..bytes]);
 }

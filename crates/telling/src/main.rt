@@ -3,7 +3,6 @@
 #![tactic(auto)]
 
 use console::arguments::{dashes, lost_runs, number_at, numbers_at};
-use libc::STDIN_FILENO;
 use lines::Written;
 use rules::sizes::MOST_RUNS;
 use tell_text::MOST_BYTES;
@@ -12,17 +11,19 @@ use tell_text::routines::write_text;
 // One place more than a plan has columns, so that more others than these are refused by then.
 const MOST_OTHERS: usize = 25;
 
-fn main() {
-    let end = dashes();
-    let column = number_at(1);
+fn main(rt: HostRuntime) {
+    let mut output = rt.stdout();
+    let mut errors = rt.stderr();
+    let end = dashes(&rt);
+    let column = number_at(&rt, 1);
     let mut others = [0usize; MOST_OTHERS];
-    let many = numbers_at(2, end, &mut others);
+    let many = numbers_at(&rt, 2, end, &mut others);
     let mut lost = [0usize; MOST_RUNS];
-    let losses = lost_runs(end, &mut lost);
+    let losses = lost_runs(&rt, end, &mut lost);
     let mut text = console::text_room();
-    let read = console::read_text(STDIN_FILENO, &mut text);
-    if read.failed {
-        console::not_read();
+    let read = console::read_text(&mut rt.stdin(), &mut text);
+    if let Some(error) = read.failed {
+        console::not_read(&mut errors, &error);
         return;
     }
     let size = read.size;
@@ -37,8 +38,8 @@ fn main() {
     let bytes = answer.bytes;
     let refused = answer.refused;
     if refused.number != 0 {
-        console::refuse(&lines[..bytes], &text[..size], refused);
+        console::refuse(&mut output, &mut errors, &lines[..bytes], &text[..size], refused);
         return;
     }
-    console::write(&lines[..bytes]);
+    console::write(&mut output, &mut errors, &lines[..bytes]);
 }
