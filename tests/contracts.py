@@ -25,7 +25,7 @@ def library():
 
 def module_of(path):
     """The crate and module of a `use` path into specs, the crate's own or another's; None for a library of the kit."""
-    m = re.match(r'Rattle·(\w+?)(?:·specs)?\.specs\.(.*)$', path)
+    m = re.match(r'Rattle\.(\w+)\.specs\.(.*)$', path)
     return m and (m.group(1), m.group(2))
 
 
@@ -123,7 +123,7 @@ class Specs:
                     parts.append(part)
                     self.home[crate, 'declared.' + inside + m.group(2), m.group(2)] = (part, crate, module, rust_names(lines, crate))
                     for name in part.names - {m.group(2)}:
-                        self.home[crate, 'declared.%s%s.the-variants' % (inside, m.group(2)), name] = (part, crate, module, {})
+                        self.home[crate, 'declared.%s%s.TheVariants' % (inside, m.group(2)), name] = (part, crate, module, {})
                 k += 1
             if parts:
                 self.files.append((path, crate, module, [], parts, {}))
@@ -132,12 +132,11 @@ class Specs:
 def rust_names(lines, crate):
     """Structs that a struct's fields name: those of the same file, and those that `use` lines bring."""
     names = {}
-    for l in lines:
-        m = re.match(r'use ([\w:]+)::(\w+);', l)
-        if m:
-            path = m.group(1).split('::')
-            home = crate if path[0] == 'crate' else path[0]
-            names[m.group(2)] = (home, '.'.join(['declared'] + path[1:] + [m.group(2)]), m.group(2))
+    for m in re.finditer(r'^use ([\w:]+)::(?:(\w+)|\{([\w\s,]+)\});', '\n'.join(lines), re.M):
+        path = m.group(1).split('::')
+        home = crate if path[0] == 'crate' else path[0]
+        for name in re.findall(r'\w+', m.group(2) or m.group(3)):
+            names[name] = (home, '.'.join(['declared'] + path[1:] + [name]), name)
     for l in lines:
         m = re.match(r'pub(?:\(crate\))? (?:struct|enum) (\w+)', l)
         if m:
@@ -191,7 +190,7 @@ def reached(specs, points):
     seen, todo = set(), []
     def look(words, names, crate, module):
         for word in words:
-            for piece in {word, word.strip('.'), word.lstrip('&')}:
+            for piece in {word, word.strip('.'), word.lstrip('&'), word.split('.')[0]}:
                 at = names.get(piece) or ((crate, module, piece) if (crate, module, piece) in specs.home else None)
                 if at and at in specs.home and id(specs.home[at][0]) not in seen:
                     seen.add(id(specs.home[at][0]))
