@@ -19,8 +19,7 @@ use numbers::{case_of, numbers_of, ratio_in};
 pub mod numbers;
 
 // W_1, W_2, ..
-#[unsafe(no_mangle)]
-pub extern "C" fn asked_words(
+pub fn asked_words(
     levels: &[u8],
     table: &[u8],
     words: &mut [i64; 24],
@@ -42,8 +41,7 @@ pub extern "C" fn asked_words(
 }
 
 // The row sums of a run, or of a place without one.
-#[unsafe(no_mangle)]
-pub extern "C" fn asked_row_sums(
+pub fn asked_row_sums(
     levels: &[u8],
     table: &[u8],
     run: u8,
@@ -68,12 +66,7 @@ pub extern "C" fn asked_row_sums(
 }
 
 // E_1, E_2, ..
-#[unsafe(no_mangle)]
-pub extern "C" fn asked_diagonal(
-    levels: &[u8],
-    sums: &mut [i64; 24],
-    places: &mut [usize; 2],
-) -> u64
+pub fn asked_diagonal(levels: &[u8], sums: &mut [i64; 24], places: &mut [usize; 2]) -> u64
     ensures refused { result ≡ (diagonal_answer (plan levels.now [])).refused.number }
     ensures sums { sums.new ≡ (diagonal_answer (plan levels.now [])).sums }
     ensures places { places.new ≡ places_of (diagonal_answer (plan levels.now [])).refused }
@@ -87,8 +80,7 @@ pub extern "C" fn asked_diagonal(
 }
 
 // The strength.
-#[unsafe(no_mangle)]
-pub extern "C" fn asked_strength(
+pub fn asked_strength(
     levels: &[u8],
     table: &[u8],
     strength: &mut usize,
@@ -109,8 +101,7 @@ pub extern "C" fn asked_strength(
 }
 
 // R.
-#[unsafe(no_mangle)]
-pub extern "C" fn asked_resolution(
+pub fn asked_resolution(
     levels: &[u8],
     table: &[u8],
     resolution: &mut usize,
@@ -131,8 +122,7 @@ pub extern "C" fn asked_resolution(
 }
 
 // A_R, A_(R+1) and the largest ratio.
-#[unsafe(no_mangle)]
-pub extern "C" fn asked_chart(
+pub fn asked_chart(
     levels: &[u8],
     table: &[u8],
     figures: &mut [f64; 3],
@@ -154,8 +144,7 @@ pub extern "C" fn asked_chart(
 }
 
 // A column's figure: whether it has a ratio, and the ratio.
-#[unsafe(no_mangle)]
-pub extern "C" fn asked_figure(
+pub fn asked_figure(
     levels: &[u8],
     table: &[u8],
     column: usize,
@@ -182,8 +171,7 @@ pub extern "C" fn asked_figure(
 }
 
 // Two plans compared: the case, and of a refusal the plan, the number and the places.
-#[unsafe(no_mangle)]
-pub extern "C" fn asked_comparison(
+pub fn asked_comparison(
     levels1: &[u8],
     table1: &[u8],
     levels2: &[u8],
@@ -199,13 +187,7 @@ pub extern "C" fn asked_comparison(
 }
 
 // The run advised for loss.
-#[unsafe(no_mangle)]
-pub extern "C" fn asked_advice(
-    levels: &[u8],
-    table: &[u8],
-    run: &mut usize,
-    places: &mut [usize; 2],
-) -> u64
+pub fn asked_advice(levels: &[u8], table: &[u8], run: &mut usize, places: &mut [usize; 2]) -> u64
     ensures refused { let p = plan levels.now table.now in
         result ≡ (advice_answer p (every_run p) (of_plan p)).refused.number }
     ensures run { let p = plan levels.now table.now in
@@ -221,8 +203,7 @@ pub extern "C" fn asked_advice(
 }
 
 // The best k to lose, in turn.
-#[unsafe(no_mangle)]
-pub extern "C" fn asked_in_turn(
+pub fn asked_in_turn(
     levels: &[u8],
     table: &[u8],
     k: usize,
@@ -245,8 +226,7 @@ pub extern "C" fn asked_in_turn(
 }
 
 // The place of a set of f of m columns.
-#[unsafe(no_mangle)]
-pub extern "C" fn asked_place(
+pub fn asked_place(
     m: usize,
     f: usize,
     columns: &[usize],
@@ -265,8 +245,7 @@ pub extern "C" fn asked_place(
 }
 
 // The set of f of m columns at a place.
-#[unsafe(no_mangle)]
-pub extern "C" fn asked_set_at(
+pub fn asked_set_at(
     m: usize,
     f: usize,
     place: usize,

@@ -19,13 +19,7 @@ use words::{RowSumsAnswer, WordAnswer, WordsAnswer};
 pub mod history;
 
 // W_1, W_2, ..
-#[unsafe(no_mangle)]
-pub extern "C" fn asked_held_words(
-    levels: &[u8],
-    table: &[u8],
-    history: &[u64],
-    words: &mut [i64; 24],
-) -> u64
+pub fn asked_held_words(levels: &[u8], table: &[u8], history: &[u64], words: &mut [i64; 24]) -> u64
     ensures refused { let h = led (plan levels.now table.now) history.now in
         result ≡ (held_words h).answer.refused.number }
     ensures words { let h = led (plan levels.now table.now) history.now in
@@ -40,8 +34,7 @@ pub extern "C" fn asked_held_words(
 }
 
 // The scaled word of one length.
-#[unsafe(no_mangle)]
-pub extern "C" fn asked_held_word(
+pub fn asked_held_word(
     levels: &[u8],
     table: &[u8],
     history: &[u64],
@@ -62,8 +55,7 @@ pub extern "C" fn asked_held_word(
 }
 
 // The row sums of a run, or of a place without one.
-#[unsafe(no_mangle)]
-pub extern "C" fn asked_held_row_sums(
+pub fn asked_held_row_sums(
     levels: &[u8],
     table: &[u8],
     history: &[u64],
@@ -86,8 +78,7 @@ pub extern "C" fn asked_held_row_sums(
 }
 
 // The strength.
-#[unsafe(no_mangle)]
-pub extern "C" fn asked_held_strength(
+pub fn asked_held_strength(
     levels: &[u8],
     table: &[u8],
     history: &[u64],
@@ -106,13 +97,7 @@ pub extern "C" fn asked_held_strength(
 }
 
 // The run advised for loss.
-#[unsafe(no_mangle)]
-pub extern "C" fn asked_held_advice(
-    levels: &[u8],
-    table: &[u8],
-    history: &[u64],
-    run: &mut usize,
-) -> u64
+pub fn asked_held_advice(levels: &[u8], table: &[u8], history: &[u64], run: &mut usize) -> u64
     ensures refused { let h = led (plan levels.now table.now) history.now in
         result ≡ (held_advice h).answer.refused.number }
     ensures run { let h = led (plan levels.now table.now) history.now in
@@ -126,8 +111,7 @@ pub extern "C" fn asked_held_advice(
 }
 
 // The best k to lose, in turn.
-#[unsafe(no_mangle)]
-pub extern "C" fn asked_held_in_turn(
+pub fn asked_held_in_turn(
     levels: &[u8],
     table: &[u8],
     history: &[u64],
@@ -148,8 +132,7 @@ pub extern "C" fn asked_held_in_turn(
 }
 
 // Two held plans compared: the case, and of a refusal the plan, the number and the places.
-#[unsafe(no_mangle)]
-pub extern "C" fn asked_held_comparison(
+pub fn asked_held_comparison(
     levels1: &[u8],
     table1: &[u8],
     history1: &[u64],
@@ -171,8 +154,7 @@ pub extern "C" fn asked_held_comparison(
 }
 
 // One call more after the history.
-#[unsafe(no_mangle)]
-pub extern "C" fn asked_held_call(levels: &[u8], table: &[u8], history: &[u64], call: u64) -> u64
+pub fn asked_held_call(levels: &[u8], table: &[u8], history: &[u64], call: u64) -> u64
     ensures { let h = led (plan levels.now table.now) history.now in
         result ≡ (call_answer h (call_of call)).refused.number }
 {

@@ -23,8 +23,7 @@ use held::Held;
 use set_words::SetWordAnswer;
 
 // W(I) of a set of f columns.
-#[unsafe(no_mangle)]
-pub extern "C" fn asked_held_set_word(
+pub fn asked_held_set_word(
     levels: &[u8],
     table: &[u8],
     history: &[u64],
@@ -46,8 +45,7 @@ pub extern "C" fn asked_held_set_word(
 }
 
 // The table of W(I) / n² for size f: the number of its lines.
-#[unsafe(no_mangle)]
-pub extern "C" fn asked_held_absolute(
+pub fn asked_held_absolute(
     levels: &[u8],
     table: &[u8],
     history: &[u64],
@@ -73,8 +71,7 @@ pub extern "C" fn asked_held_absolute(
 }
 
 // The table of W(I) / (n²(s - 1)) for size f: the number of its lines.
-#[unsafe(no_mangle)]
-pub extern "C" fn asked_held_relative(
+pub fn asked_held_relative(
     levels: &[u8],
     table: &[u8],
     history: &[u64],
@@ -100,8 +97,7 @@ pub extern "C" fn asked_held_relative(
 }
 
 // R.
-#[unsafe(no_mangle)]
-pub extern "C" fn asked_held_resolution(
+pub fn asked_held_resolution(
     levels: &[u8],
     table: &[u8],
     history: &[u64],
@@ -120,8 +116,7 @@ pub extern "C" fn asked_held_resolution(
 }
 
 // R, the largest ratio, and GR in thousandths.
-#[unsafe(no_mangle)]
-pub extern "C" fn asked_held_generalized(
+pub fn asked_held_generalized(
     levels: &[u8],
     table: &[u8],
     history: &[u64],
@@ -146,13 +141,7 @@ pub extern "C" fn asked_held_generalized(
 }
 
 // A_R, A_(R+1) and the largest ratio.
-#[unsafe(no_mangle)]
-pub extern "C" fn asked_held_chart(
-    levels: &[u8],
-    table: &[u8],
-    history: &[u64],
-    figures: &mut [f64; 3],
-) -> u64
+pub fn asked_held_chart(levels: &[u8], table: &[u8], history: &[u64], figures: &mut [f64; 3]) -> u64
     ensures refused { let h = led (plan levels.now table.now) history.now in
         result ≡ (held_chart h).answer.refused.number }
     ensures figures { let h = led (plan levels.now table.now) history.now in
@@ -167,8 +156,7 @@ pub extern "C" fn asked_held_chart(
 }
 
 // A column's figure: whether it has a ratio, and the ratio.
-#[unsafe(no_mangle)]
-pub extern "C" fn asked_held_figure(
+pub fn asked_held_figure(
     levels: &[u8],
     table: &[u8],
     history: &[u64],

@@ -36,8 +36,7 @@ fn rounds(held: Held, times: u64) -> Held
 }
 
 // A plan is opened, goes through the rounds, and loses run 0: the word of one length of the runs that are left.
-#[unsafe(no_mangle)]
-pub extern "C" fn bench_strikes(levels: &[u8], table: &[u8], length: u64, times: u64) -> i64
+pub fn bench_strikes(levels: &[u8], table: &[u8], length: u64, times: u64) -> i64
     ensures { result ≡ strikes_number (plan levels.now table.now) length times }
 {
     let opened = held::calls::open(levels, table);
@@ -52,8 +51,7 @@ pub extern "C" fn bench_strikes(levels: &[u8], table: &[u8], length: u64, times:
 }
 
 // The table for size f, put into the lent rooms: the number of its lines.
-#[unsafe(no_mangle)]
-pub extern "C" fn bench_table(
+pub fn bench_table(
     levels: &[u8],
     table: &[u8],
     f: u64,
@@ -77,8 +75,7 @@ pub extern "C" fn bench_table(
 }
 
 // Generalized resolution in thousandths.
-#[unsafe(no_mangle)]
-pub extern "C" fn bench_ratio(levels: &[u8], table: &[u8]) -> i64
+pub fn bench_ratio(levels: &[u8], table: &[u8]) -> i64
     ensures { result ≡ ratio_number (plan levels.now table.now) }
 {
     let answer = resolution::generalized(levels, table);
@@ -86,14 +83,7 @@ pub extern "C" fn bench_ratio(levels: &[u8], table: &[u8]) -> i64
 }
 
 // W(I) of a set of f columns, by the engine that is named.
-#[unsafe(no_mangle)]
-pub extern "C" fn bench_set_word(
-    levels: &[u8],
-    table: &[u8],
-    f: u64,
-    columns: &[usize],
-    by_pairs: bool,
-) -> i64
+pub fn bench_set_word(levels: &[u8], table: &[u8], f: u64, columns: &[usize], by_pairs: bool) -> i64
     ensures { result ≡ set_word_number (plan levels.now table.now) f columns.now }
 {
     let engine = if by_pairs {
@@ -145,8 +135,7 @@ fn words_added(levels: &[u8], table: &[u8], runs: &[usize], f: usize, by_pairs: 
 }
 
 // W(I) of every set of f columns, by the engine that is named, added up.
-#[unsafe(no_mangle)]
-pub extern "C" fn bench_set_words(levels: &[u8], table: &[u8], f: u64, by_pairs: bool) -> i64
+pub fn bench_set_words(levels: &[u8], table: &[u8], f: u64, by_pairs: bool) -> i64
     ensures { result ≡ set_words_number (plan levels.now table.now) f }
 {
     let size = f as usize;

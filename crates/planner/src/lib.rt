@@ -17,16 +17,14 @@ use exact::signed;
 use lines::Written;
 
 // The version of this library, as the header writes it.
-#[unsafe(no_mangle)]
-pub extern "C" fn crumb_version() -> u64
+pub fn crumb_version() -> u64
     ensures { result ≡ version }
 {
     1100
 }
 
 // The scaled word of one length, or the refusal number negated.
-#[unsafe(no_mangle)]
-pub extern "C" fn crumb_word(levels: &[u8], table: &[u8], length: u64) -> i64
+pub fn crumb_word(levels: &[u8], table: &[u8], length: u64) -> i64
     ensures { result ≡ planner_word (plan levels.now table.now) length }
 {
     let answer = words::word(levels, table, length as usize);
@@ -35,8 +33,7 @@ pub extern "C" fn crumb_word(levels: &[u8], table: &[u8], length: u64) -> i64
 }
 
 // The listing of a plan text, or the line of what refuses it, into the lent room: the number of bytes, or -7 where the room is too small.
-#[unsafe(no_mangle)]
-pub extern "C" fn crumb_listing(text: &[u8], room: &mut [u8]) -> i64
+pub fn crumb_listing(text: &[u8], room: &mut [u8]) -> i64
     ensures answer { result ≡ planner_listing text.now room.old }
     ensures room { room.new ≡ listing_room text.now room.old }
 {
@@ -46,8 +43,7 @@ pub extern "C" fn crumb_listing(text: &[u8], room: &mut [u8]) -> i64
 }
 
 // The text of a plan into the lent room: the number of bytes, or the refusal number negated.
-#[unsafe(no_mangle)]
-pub extern "C" fn crumb_write(levels: &[u8], table: &[u8], room: &mut [u8]) -> i64
+pub fn crumb_write(levels: &[u8], table: &[u8], room: &mut [u8]) -> i64
     ensures answer { let p = plan levels.now table.now in
         let a = write_answer p (every_run p) (of_plan p) (length room.old) in
         result ≡ number_or a.refused (pos a.bytes) }
@@ -62,8 +58,7 @@ pub extern "C" fn crumb_write(levels: &[u8], table: &[u8], room: &mut [u8]) -> i
 
 // Whether the runs that stand can tell the column from the others acting together: the lines of the answer into the lent room. The number
 // of bytes, or the refusal number negated.
-#[unsafe(no_mangle)]
-pub extern "C" fn crumb_tell(
+pub fn crumb_tell(
     levels: &[u8],
     table: &[u8],
     standing: &[u8],
@@ -90,8 +85,7 @@ pub extern "C" fn crumb_tell(
 
 // The table for size f of the runs that stand: its lines into three lent rooms, for numerators, denominators and counts. The number of
 // lines, or the refusal number negated.
-#[unsafe(no_mangle)]
-pub extern "C" fn crumb_table(
+pub fn crumb_table(
     levels: &[u8],
     table: &[u8],
     standing: &[u8],
@@ -124,13 +118,7 @@ pub extern "C" fn crumb_table(
 
 // The text of a plan without its lost runs, and the original numbers of the runs left, each into its lent room: the number of bytes,
 // or the refusal number negated.
-#[unsafe(no_mangle)]
-pub extern "C" fn crumb_rewrite(
-    text: &[u8],
-    lost: &[usize],
-    room: &mut [u8],
-    numbers: &mut [usize],
-) -> i64
+pub fn crumb_rewrite(text: &[u8], lost: &[usize], room: &mut [u8], numbers: &mut [usize]) -> i64
     ensures answer { let a = rewrite_answer text.now lost.now (length room.old) (length numbers.old) in
         result ≡ number_or a.refused (pos a.bytes) }
     ensures room { let a = rewrite_answer text.now lost.now (length room.old) (length numbers.old) in

@@ -1,0 +1,137 @@
+// For the tests: the calls of `asked_held` as C functions, each with the same contract.
+#![tactic(auto)]
+
+ghost use Rattle.std.specs.Prelude.{◌≡◌};
+ghost use Rattle.rules.specs.Plan.{plan};
+ghost use Rattle.held.specs.Held.{call_answer};
+ghost use Rattle.held_questions.specs.Answers.{held_words, held_word, held_row_sums, held_strength, held_comparison, held_advice, held_turns};
+ghost use Rattle.asked.specs.Asked.{row_at, numbers_of};
+ghost use Rattle.asked_held.specs.Histories.{call_of, led};
+
+// W_1, W_2, ..
+#[unsafe(no_mangle)]
+pub extern "C" fn asked_held_words(
+    levels: &[u8],
+    table: &[u8],
+    history: &[u64],
+    words: &mut [i64; 24],
+) -> u64
+    ensures refused { let h = led (plan levels.now table.now) history.now in
+        result ≡ (held_words h).answer.refused.number }
+    ensures words { let h = led (plan levels.now table.now) history.now in
+        words.new ≡ (held_words h).answer.words }
+{
+    asked_held::asked_held_words(levels, table, history, words)
+}
+
+// The scaled word of one length.
+#[unsafe(no_mangle)]
+pub extern "C" fn asked_held_word(
+    levels: &[u8],
+    table: &[u8],
+    history: &[u64],
+    length: usize,
+    word: &mut i64,
+) -> u64
+    ensures refused { let h = led (plan levels.now table.now) history.now in
+        result ≡ (held_word h length).answer.refused.number }
+    ensures word { let h = led (plan levels.now table.now) history.now in
+        word.new ≡ (held_word h length).answer.word }
+{
+    asked_held::asked_held_word(levels, table, history, length, word)
+}
+
+// The row sums of a run, or of a place without one.
+#[unsafe(no_mangle)]
+pub extern "C" fn asked_held_row_sums(
+    levels: &[u8],
+    table: &[u8],
+    history: &[u64],
+    run: u8,
+    sums: &mut [i64; 24],
+) -> u64
+    ensures refused { let h = led (plan levels.now table.now) history.now in
+        result ≡ (held_row_sums h).answer.refused.number }
+    ensures sums { let h = led (plan levels.now table.now) history.now in
+        sums.new ≡ row_at (held_row_sums h).answer run }
+{
+    asked_held::asked_held_row_sums(levels, table, history, run, sums)
+}
+
+// The strength.
+#[unsafe(no_mangle)]
+pub extern "C" fn asked_held_strength(
+    levels: &[u8],
+    table: &[u8],
+    history: &[u64],
+    strength: &mut usize,
+) -> u64
+    ensures refused { let h = led (plan levels.now table.now) history.now in
+        result ≡ (held_strength h).answer.refused.number }
+    ensures strength { let h = led (plan levels.now table.now) history.now in
+        strength.new ≡ (held_strength h).answer.strength }
+{
+    asked_held::asked_held_strength(levels, table, history, strength)
+}
+
+// The run advised for loss.
+#[unsafe(no_mangle)]
+pub extern "C" fn asked_held_advice(
+    levels: &[u8],
+    table: &[u8],
+    history: &[u64],
+    run: &mut usize,
+) -> u64
+    ensures refused { let h = led (plan levels.now table.now) history.now in
+        result ≡ (held_advice h).answer.refused.number }
+    ensures run { let h = led (plan levels.now table.now) history.now in
+        run.new ≡ (held_advice h).answer.run }
+{
+    asked_held::asked_held_advice(levels, table, history, run)
+}
+
+// The best k to lose, in turn.
+#[unsafe(no_mangle)]
+pub extern "C" fn asked_held_in_turn(
+    levels: &[u8],
+    table: &[u8],
+    history: &[u64],
+    k: usize,
+    runs: &mut [usize; 3],
+) -> u64
+    ensures refused { let h = led (plan levels.now table.now) history.now in
+        result ≡ (held_turns h k).answer.refused.number }
+    ensures runs { let h = led (plan levels.now table.now) history.now in
+        runs.new ≡ (held_turns h k).answer.runs }
+{
+    asked_held::asked_held_in_turn(levels, table, history, k, runs)
+}
+
+// Two held plans compared: the case, and of a refusal the plan, the number and the places.
+#[unsafe(no_mangle)]
+pub extern "C" fn asked_held_comparison(
+    levels1: &[u8],
+    table1: &[u8],
+    history1: &[u64],
+    levels2: &[u8],
+    table2: &[u8],
+    history2: &[u64],
+    numbers: &mut [u64; 5],
+)
+    ensures { let h = led (plan levels1.now table1.now) history1.now in
+        let k = led (plan levels2.now table2.now) history2.now in
+        numbers.new ≡ numbers_of (held_comparison h k).answer }
+{
+    asked_held::asked_held_comparison(
+        levels1, table1, history1, levels2, table2, history2, numbers,
+    );
+}
+
+// One call more after the history.
+#[unsafe(no_mangle)]
+pub extern "C" fn asked_held_call(levels: &[u8], table: &[u8], history: &[u64], call: u64) -> u64
+    ensures { let h = led (plan levels.now table.now) history.now in
+        result ≡ (call_answer h (call_of call)).refused.number }
+{
+    asked_held::asked_held_call(levels, table, history, call)
+}
