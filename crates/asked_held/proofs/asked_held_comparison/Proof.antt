@@ -7,7 +7,7 @@ use Rattle.asked_held.proofs.asked_held_comparison.Tie as tie
 returns : tie.Need-returns
 returns c =
     let k = c in
-    rw (c.Numbers-of.ensures, k.compare-asked.ensures, k.led-other.ensures, k.led-held.ensures) refl
+    rw (c.numbers_of-told.ensures, k.compare-asked.ensures, k.led-other.ensures, k.led-held.ensures) refl
 
 compare-requires : tie.Need-compare-asked-requires
 compare-requires c κs = (rw c.led-held.ensures (led-held _ _), rw c.led-other.ensures (led-held _ _))

@@ -13,20 +13,20 @@ abbrev given : tie.After-open-opened → Plan
 given k = plan k.args.levels.now k.args.table.now
 
 rounds-requires : tie.Need-rounds-requires
-rounds-requires c κs = rw c.before.«open».ensures (open-held (given c.before))
+rounds-requires c κs = rw c.open-opened.ensures (open-held (given c.before))
 
 strike-requires : tie.Need-strike-struck-requires
 strike-requires c κs =
     let k = c.before.before in
     let times = k.args.times in
-    rw (c.rounds.ensures, k.«open».ensures) (rounds-held (open-held (given k)) times)
+    rw (c.rounds.ensures, k.open-opened.ensures) (rounds-held (open-held (given k)) times)
 
 word-requires : tie.Need-word-asked-requires
 word-requires c κs =
     let s = c in
     let k = s.before.before.before.before in
     let times = k.args.times in
-    rw (s.strike-struck.ensures, s.rounds.ensures, k.«open».ensures) (call-held (rounds-held (open-held (given k)) times) _)
+    rw (s.strike-struck.ensures, s.rounds.ensures, k.open-opened.ensures) (call-held (rounds-held (open-held (given k)) times) _)
 
 number-or-requires : tie.Need-number_or-requires
 number-or-requires c κs =
@@ -36,7 +36,7 @@ number-or-requires c κs =
 
 number-or-requires-2 : tie.Need-number_or-requires-2
 number-or-requires-2 c κs =
-    let k = c.before.before.before.before.before.before.before.before.before.before in open-number (given k) k.«open».ensures
+    let k = c.before.before.before.before.before.before.before.before.before.before in open-number (given k) k.open-opened.ensures
 
 returns : tie.Need-returns
 unfolding strikes_number
@@ -53,7 +53,7 @@ returns c =
       w.word-asked.ensures,
       s.strike-struck.ensures,
       s.rounds.ensures,
-      k.«open».ensures,
+      k.open-opened.ensures,
     )
 
 pub bench_strikes_spec : {M : Type 1} → statement M

@@ -5,10 +5,10 @@ use Rattle.asked.proofs.numbers.numbers_of.Statement.{statement}
 use Rattle.asked.proofs.numbers.numbers_of.Tie as tie
 
 returns : tie.Need-returns-in-Compared
-returns c = ap (λ v. v ∷ 0 ∷ 0 ∷ 0 ∷ 0 ∷ []) c.verdict_number.ensures ∙ sym (ap numbers_of c.comparison-1.given.1)
+returns c = ap (λ v. v ∷ 0 ∷ 0 ∷ 0 ∷ 0 ∷ []) c.verdict_number.ensures ∙ sym (ap numbers_of c.in-Compared.is)
 
 returns-3 : tie.Need-returns-in-Refused
-returns-3 c = rw c.comparison-in-Refused-1.given.1 refl
+returns-3 c = rw c.in-Refused.is refl
 
 pub numbers_of_spec : {M : Type 1} → statement M
 numbers_of_spec =

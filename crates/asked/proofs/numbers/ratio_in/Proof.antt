@@ -6,7 +6,7 @@ use Rattle.asked.proofs.numbers.ratio_in.Tie as tie
 
 returns-2 : tie.Need-returns-in-Clear
 unfolding of_bits
-returns-2 c = rw c.enum_told-1.given.1 refl
+returns-2 c = rw c.in-Clear.is refl
 
 pub ratio_in_spec : {M : Type 1} → statement M
 ratio_in_spec = tie.close (tie.spec (λ c. search rules) (λ c. search rules) (λ c. search rules) returns-2)

@@ -21,7 +21,7 @@ decreases-loop-k levels table history left₀ k₀ k-end left k = length history
 loop-holds : tie.Need-loop-k-init invariant-loop-k decreases-loop-k
 loop-holds c =
     let s = c.args in
-    (omega arith, rw c.before.«open».ensures (open-held (plan s.levels.now s.table.now)), refl)
+    (omega arith, rw c.open-opened.ensures (open-held (plan s.levels.now s.table.now)), refl)
 
 called-requires : tie.Need-called-answer-requires invariant-loop-k decreases-loop-k
 called-requires c κs = c.loop-k.invariant.1
@@ -42,7 +42,7 @@ returns c =
     let l = c.loop-k in
     let history = c.args.history.now in
     ap (λ cs. after l.left (map call_of cs)) (sym (drop_of_length-le history {i = l.k} (omega arith))) ∙ l.invariant.2
-    ∙ ap (λ (a : HeldAnswer). after a.held (map call_of history)) c.before.before.before.«open».ensures
+    ∙ ap (λ (a : HeldAnswer). after a.held (map call_of history)) c.open-opened.ensures
 
 pub led_spec : {M : Type 1} → statement M
 led_spec =
