@@ -19,7 +19,13 @@ fn main(rt: HostRuntime) {
     let bytes = write_listing(&text[..size], &mut lines);
     let refused: Refusal = console::refusal_of(&text[..size]);
     if refused.number != 0 {
-        console::refuse(&mut output, &mut errors, &lines[..bytes], &text[..size], refused);
+        console::refuse(
+            &mut output,
+            &mut errors,
+            &lines[..bytes],
+            &text[..size],
+            refused,
+        );
         return;
     }
     console::write(&mut output, &mut errors, &lines[..bytes]);

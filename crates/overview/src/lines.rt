@@ -3,7 +3,12 @@ use rules::Refusal;
 use std::io;
 use std::io::Write;
 
-pub(crate) fn line<W: Write>(output: &mut W, word: &str, first: u64, second: u64) -> io::Result<()> {
+pub(crate) fn line<W: Write>(
+    output: &mut W,
+    word: &str,
+    first: u64,
+    second: u64,
+) -> io::Result<()> {
     writeln!(output, "{word} {first} {second}")
 }
 

@@ -48,12 +48,7 @@ fn show_repeated<W: Write>(
     Ok(())
 }
 
-fn show_plan<W: Write>(
-    output: &mut W,
-    levels: &[u8],
-    table: &[u8],
-    runs: usize,
-) -> io::Result<()> {
+fn show_plan<W: Write>(output: &mut W, levels: &[u8], table: &[u8], runs: usize) -> io::Result<()> {
     line(output, "plan", runs as u64, levels.len() as u64)?;
     show_columns(output, levels, table)?;
     show_repeated(output, levels, table, runs)

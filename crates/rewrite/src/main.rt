@@ -18,12 +18,7 @@ use std::io::Write;
 use std::rt::Env;
 use writer::MOST_BYTES;
 
-fn show_refusal<O: Write, E: Write>(
-    output: &mut O,
-    errors: &mut E,
-    refused: Refusal,
-    text: &[u8],
-) {
+fn show_refusal<O: Write, E: Write>(output: &mut O, errors: &mut E, refused: Refusal, text: &[u8]) {
     let mut line = [0u8; 71];
     let size = lines::refusal_line(refused, &mut line);
     console::refuse(output, errors, &line[..size], text, refused);

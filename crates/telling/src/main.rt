@@ -38,7 +38,13 @@ fn main(rt: HostRuntime) {
     let bytes = answer.bytes;
     let refused = answer.refused;
     if refused.number != 0 {
-        console::refuse(&mut output, &mut errors, &lines[..bytes], &text[..size], refused);
+        console::refuse(
+            &mut output,
+            &mut errors,
+            &lines[..bytes],
+            &text[..size],
+            refused,
+        );
         return;
     }
     console::write(&mut output, &mut errors, &lines[..bytes]);

@@ -11,8 +11,8 @@ pub loop-at-preserved : goal.loop-at-preserved
 loop-at-preserved c =
     let P = c.loop-at.invariant in
     elim c.if-text-at-eq-LINE_FEED.branch [
-      then-text-at-eq-LINE_FEED w ↦ rw w.left-is (line-passed P (omega arith) c.if-left-eq0.false w.if-text-at-eq-LINE_FEED.true)
-    | else-text-at-eq-LINE_FEED w ↦ rw w.left-is (other-passed P (omega arith) c.if-left-eq0.false w.if-text-at-eq-LINE_FEED.false)
+      | then-text-at-eq-LINE_FEED w ↦ rw w.left-is (line-passed P (omega arith) c.if-left-eq0.false w.if-text-at-eq-LINE_FEED.true)
+      | else-text-at-eq-LINE_FEED w ↦ rw w.left-is (other-passed P (omega arith) c.if-left-eq0.false w.if-text-at-eq-LINE_FEED.false)
     ]
 
 pub returns-clause-bytes : goal.returns-clause-bytes

@@ -24,13 +24,13 @@ loop-again c =
       omega arith,
       refl,
       elim c.if-low-number.branch [
-      then-low-number+then-number-next w ↦ rw w.next-is (least-lower xs a.low a.end l.loop-k.k l.loop-k.invariant.2 (omega arith)
-          w.if-low-number.true w.if-number-next.true)
-      | else-low-number w ↦ rw w.next-is (least-same xs a.low a.end l.loop-k.k l.loop-k.invariant.2 (omega arith)
-          (elim w.else-low-number.branch [
-          else-low-number-via-then-low-number+else-number-next v ↦ λ b. let n = v.if-number-next.false in omega (arith, b.1)
-          | else-low-number-via-else-low-number v ↦ λ b. let n = v.if-low-number.false in omega (arith, b.0)
-          ]))
+        | then-low-number+then-number-next w ↦ rw w.next-is (least-lower xs a.low a.end l.loop-k.k l.loop-k.invariant.2 (omega arith)
+            w.if-low-number.true w.if-number-next.true)
+        | else-low-number w ↦ rw w.next-is (least-same xs a.low a.end l.loop-k.k l.loop-k.invariant.2 (omega arith)
+            (elim w.else-low-number.branch [
+              | else-low-number-via-then-low-number+else-number-next v ↦ λ b. let n = v.if-number-next.false in omega (arith, b.1)
+              | else-low-number-via-else-low-number v ↦ λ b. let n = v.if-low-number.false in omega (arith, b.0)
+            ]))
       ],
     )
 

@@ -33,4 +33,4 @@ pub returns-clause-room : goal.returns-clause-room
 returns-clause-room t c =
     let w = c.write_number-end in
     ap (set w.new.room w.result) c.digit-2.ensures
-        ∙ last_written c.args.room.now w.new.room c.args.at c.args.n w.result (omega arith) c.requires w.ensures.room w.ensures.next
+    ∙ last_written c.args.room.now w.new.room c.args.at c.args.n w.result (omega arith) c.requires w.ensures.room w.ensures.next
