@@ -33,22 +33,24 @@ loop-again c =
     let below : l.f < length (stand marks) = omega (arith, long) in
     let read : get_or (stand marks) l.f false ≡ not (eqb (get_or marks l.f 0) 0) = get_d_map (λ b. not (eqb b 0)) marks l.f 0 false (omega arith) in
     elim c.if-marks-f-ne0.branch [
-    then-marks-f-ne0 w ↦ (
-      l.invariant.0,
-      omega arith,
-      l.invariant.2,
-      rw (w.runs-is, length-set) l.invariant.3,
-      omega arith,
-      rw (w.runs-is, w.count-is) (walk-stands (stand marks) fits l.f below l.invariant.5 (read ∙ ap not (ne_eqb (get_or marks l.f 0) 0 w.if-marks-f-ne0.true))),
-    )
-    | else-marks-f-ne0 w ↦ (
-      l.invariant.0,
-      omega arith,
-      l.invariant.2,
-      rw w.runs-is l.invariant.3,
-      omega arith,
-      rw (w.runs-is, w.count-is) (walk-struck (stand marks) fits l.f below l.invariant.5 (read ∙ ap not (eq-eqb (get_or marks l.f 0) 0 w.if-marks-f-ne0.false))),
-    )
+      | then-marks-f-ne0 w ↦ (
+        l.invariant.0,
+        omega arith,
+        l.invariant.2,
+        rw (w.runs-is, length-set) l.invariant.3,
+        omega arith,
+        rw (w.runs-is, w.count-is)
+            (walk-stands (stand marks) fits l.f below l.invariant.5 (read ∙ ap not (ne_eqb (get_or marks l.f 0) 0 w.if-marks-f-ne0.true))),
+      )
+      | else-marks-f-ne0 w ↦ (
+        l.invariant.0,
+        omega arith,
+        l.invariant.2,
+        rw w.runs-is l.invariant.3,
+        omega arith,
+        rw (w.runs-is, w.count-is)
+            (walk-struck (stand marks) fits l.f below l.invariant.5 (read ∙ ap not (eq-eqb (get_or marks l.f 0) 0 w.if-marks-f-ne0.false))),
+      )
     ]
 
 returns : tie.Need-returns invariant-loop-f decreases-loop-f

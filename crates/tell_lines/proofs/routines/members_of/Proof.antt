@@ -28,20 +28,22 @@ loop-again c =
     let s = l.args in
     let test : ℕ → Bool = λ y. eqb (group_of s.groups y) s.k in
     elim c.if-wide-k.branch [
-    then-wide-k w ↦ (
-      omega arith,
-      l.loop-x.invariant.1,
-      rw (w.levels-is, length-set) l.loop-x.invariant.2,
-      omega arith,
-      rw (w.levels-is, w.many-is) (sifted-next test most_groups l.loop-x.x (omega arith) l.loop-x.invariant.4 (eq-eqb _ _ (sym c.wide.ensures ∙ w.if-wide-k.true))),
-    )
-    | else-wide-k w ↦ (
-      omega arith,
-      l.loop-x.invariant.1,
-      rw w.levels-is l.loop-x.invariant.2,
-      omega arith,
-      rw (w.levels-is, w.many-is) (sifted-passed test most_groups l.loop-x.x l.loop-x.invariant.4 (ne_eqb _ _ (λ e. w.if-wide-k.false (c.wide.ensures ∙ e)))),
-    )
+      | then-wide-k w ↦ (
+        omega arith,
+        l.loop-x.invariant.1,
+        rw (w.levels-is, length-set) l.loop-x.invariant.2,
+        omega arith,
+        rw (w.levels-is, w.many-is)
+            (sifted-next test most_groups l.loop-x.x (omega arith) l.loop-x.invariant.4 (eq-eqb _ _ (sym c.wide.ensures ∙ w.if-wide-k.true))),
+      )
+      | else-wide-k w ↦ (
+        omega arith,
+        l.loop-x.invariant.1,
+        rw w.levels-is l.loop-x.invariant.2,
+        omega arith,
+        rw (w.levels-is, w.many-is)
+            (sifted-passed test most_groups l.loop-x.x l.loop-x.invariant.4 (ne_eqb _ _ (λ e. w.if-wide-k.false (c.wide.ensures ∙ e)))),
+      )
     ]
 
 returns : tie.Need-returns invariant-loop-x decreases-loop-x

@@ -1,6 +1,5 @@
 -- The least of the first k numbers.
-use Rattle.exact.proofs.Ground.{ltb→lt, lt-ltb, ◌≡◌, refl, ◌≤◌, ◌-◌, arith, length}
-use Rattle.exact.proofs.Tests.{true-is, clash}
+use Rattle.exact.proofs.Ground.{◌≡◌, refl, ◌≤◌, ◌-◌, arith, length}
 use Rattle.tell_lines.proofs.Least.{LeastTo, least-none, least-lower, least-same, least-all}
 use Rattle.tell_lines.proofs.routines.next_number.Statement.{statement}
 use Rattle.tell_lines.proofs.routines.next_number.Tie as tie
@@ -24,13 +23,13 @@ loop-again c =
       omega arith,
       refl,
       elim c.if-low-number.branch [
-      then-low-number+then-number-next w ↦ rw w.next-is (least-lower xs a.low a.end l.loop-k.k l.loop-k.invariant.2 (omega arith)
-          w.if-low-number.true w.if-number-next.true)
-      | else-low-number w ↦ rw w.next-is (least-same xs a.low a.end l.loop-k.k l.loop-k.invariant.2 (omega arith)
-          (elim w.else-low-number.branch [
-          else-low-number-via-then-low-number+else-number-next v ↦ λ b. let n = v.if-number-next.false in omega (arith, b.1)
-          | else-low-number-via-else-low-number v ↦ λ b. let n = v.if-low-number.false in omega (arith, b.0)
-          ]))
+        | then-low-number+then-number-next w ↦ rw w.next-is (least-lower xs a.low a.end l.loop-k.k l.loop-k.invariant.2 (omega arith)
+            w.if-low-number.true w.if-number-next.true)
+        | else-low-number w ↦ rw w.next-is (least-same xs a.low a.end l.loop-k.k l.loop-k.invariant.2 (omega arith)
+            (elim w.else-low-number.branch [
+              | else-low-number-via-then-low-number+else-number-next v ↦ λ b. let n = v.if-number-next.false in omega (arith, b.1)
+              | else-low-number-via-else-low-number v ↦ λ b. let n = v.if-low-number.false in omega (arith, b.0)
+            ]))
       ],
     )
 

@@ -1,5 +1,5 @@
 -- The digits of a tenth of the number are written by the call, the last one after it.
-use Rattle.exact.proofs.Ground.{◌≡◌, ◌∙◌, sym, ap, ◌+◌, arith, set}
+use Rattle.exact.proofs.Ground.{◌∙◌, sym, ap, ◌+◌, arith, set}
 use Rattle.text.proofs.Writing.{one-long, one_written, one-longer, last_written}
 use Rattle.text.proofs.routines.+write_number.Goals as goal
 
@@ -33,4 +33,4 @@ pub returns-clause-room : goal.returns-clause-room
 returns-clause-room t c =
     let w = c.write_number-end in
     ap (set w.new.room w.result) c.digit-2.ensures
-        ∙ last_written c.args.room.now w.new.room c.args.at c.args.n w.result (omega arith) c.requires w.ensures.room w.ensures.next
+    ∙ last_written c.args.room.now w.new.room c.args.at c.args.n w.result (omega arith) c.requires w.ensures.room w.ensures.next
