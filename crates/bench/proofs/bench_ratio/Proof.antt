@@ -11,10 +11,10 @@ abbrev given : tie.After-generalized-answer → Plan
 given k = plan k.args.levels.now k.args.table.now
 
 of-u64-requires : tie.Need-of_u64-requires
-of-u64-requires c κs = thousandths-small (given c) c.generalized-answer.ensures
+of-u64-requires c κs = thousandths-small (given c.before) c.generalized-answer.ensures
 
 number-or-requires : tie.Need-number_or-requires
-number-or-requires c κs = ratio-number (given c.before) c.generalized-answer.ensures
+number-or-requires c κs = ratio-number (given c.before.before) c.generalized-answer.ensures
 
 returns : tie.Need-returns
 unfolding ratio_number

@@ -88,7 +88,7 @@ word-by-requires c κs =
 turn : (c : tie.After-word_by-word invariant-loop-k decreases-loop-k) →
     let d = c.before.before.before.before.before in
     let s = start d in
-    to_z w64 d.loop-k.total +ℤ to_z w64 (of_z w64 c.word_by-word.result)
+    to_z w64 d.loop-k.total-bits +ℤ to_z w64 (of_z w64 c.word_by-word.result)
     ≡ sum (from 0 (d.loop-k.k + 1)) (λ j. word_of (level (given s)) (entry (given s)) (rs s) (set_at (columns (given s)) s.args.f j))
 turn c =
     let b = c.before.before.before in

@@ -1,5 +1,5 @@
 -- The plan that was read is opened and struck; a text that is not read leaves what opening nothing leaves.
-use Rattle.exact.proofs.Ground.{◌≡◌, ◌∙◌, sym, ap, ap₂, refl, arith, length, rules}
+use Rattle.exact.proofs.Ground.{◌≡◌, ◌∙◌, sym, ap, ap₂, arith, length, rules}
 use Rattle.rules.specs.Plan.{plan, most_columns, most_entries}
 use Rattle.rules.specs.Refusals.{unless}
 use Rattle.rules.proofs.Ranges.{unless-refused, unless-accepted}

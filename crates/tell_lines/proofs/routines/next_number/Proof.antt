@@ -1,6 +1,5 @@
 -- The least of the first k numbers.
-use Rattle.exact.proofs.Ground.{ltb→lt, lt-ltb, ◌≡◌, refl, ◌≤◌, ◌-◌, arith, length}
-use Rattle.exact.proofs.Tests.{true-is, clash}
+use Rattle.exact.proofs.Ground.{◌≡◌, refl, ◌≤◌, ◌-◌, arith, length}
 use Rattle.tell_lines.proofs.Least.{LeastTo, least-none, least-lower, least-same, least-all}
 use Rattle.tell_lines.proofs.routines.next_number.Statement.{statement}
 use Rattle.tell_lines.proofs.routines.next_number.Tie as tie

@@ -19,11 +19,15 @@ module _ (q : tie.After-write_asked-asked) where
   joined =
       let A = (start q).requires.0 in linked given (start q).args.runs.now (start q).args.column (start q).args.others.now A.asked A.are-joins
 
+-- what was asked, from the place before the levels
+abbrev asked : tie.After-write_levels-arg-1 → tie.After-write_asked-asked
+asked c = c.before.before.before.before.before.before.before.before.before.before.before.before.before.before
+
 write-levels-requires : tie.Need-write_levels-grouped-requires
 write-levels-requires c κs =
     let w = c in
     let t = w in
-    let q = c.before.before.before.before.before.before.before.before.before.before.before.before.before.before in
+    let q = asked c in
     let P = q.write_asked-asked.ensures in
     let Q = t.write_told-told.ensures in
     let R = w.write_line-worded.ensures in
@@ -37,7 +41,7 @@ write-pairs-requires c κs =
     let l = c in
     let w = l in
     let t = w in
-    let q = c.before.before.before.before.before.before.before.before.before.before.before.before.before.before.before.before.before.before in
+    let q = asked c.before.before.before.before in
     let P = q.write_asked-asked.ensures in
     let Q = t.write_told-told.ensures in
     let R = w.write_line-worded.ensures in
@@ -69,7 +73,7 @@ write-split-requires c κs =
     let l = h in
     let w = l in
     let t = w in
-    let q = c.before.before.before.before.before.before.before.before.before.before.before.before.before.before.before.before.before.before.before.before.before.before in
+    let q = asked c.before.before.before.before.before.before.before.before in
     let P = q.write_asked-asked.ensures in
     let Q = t.write_told-told.ensures in
     let R = w.write_line-worded.ensures in
@@ -107,7 +111,7 @@ returns c =
     let l = h in
     let w = l in
     let t = w in
-    let q = c.before.before.before.before.before.before.before.before.before.before.before.before.before.before.before.before.before.before.before.before.before.before.before.before.before in
+    let q = asked c.before.before.before.before.before.before.before.before.before.before.before in
     let a = (start q).args in
     put_as (whole (given q) a.runs.now a.column a.others.now (start q).requires.0) (omega (arith, (joined q).few, (start q).requires.0.asked.sound.few))
     (put_both (put_both (put_both (put_both (put_both q.write_asked-asked.ensures t.write_told-told.ensures) w.write_line-worded.ensures) l.write_levels-grouped.ensures)

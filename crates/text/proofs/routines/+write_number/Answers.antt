@@ -1,5 +1,5 @@
 -- The digits of a tenth of the number are written by the call, the last one after it.
-use Rattle.exact.proofs.Ground.{◌≡◌, ◌∙◌, sym, ap, ◌+◌, arith, set}
+use Rattle.exact.proofs.Ground.{◌∙◌, sym, ap, ◌+◌, arith, set}
 use Rattle.text.proofs.Writing.{one-long, one_written, one-longer, last_written}
 use Rattle.text.proofs.routines.+write_number.Goals as goal
 
