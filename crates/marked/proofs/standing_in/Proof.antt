@@ -39,12 +39,8 @@ loop-again c =
         l.invariant.2,
         rw (w.runs-is, length-set) l.invariant.3,
         omega arith,
-<<<<<<< HEAD
-        rw (w.runs-is, w.count-is) (walk-stands (stand marks) fits l.f below l.invariant.5 (read ∙ ap not (ne_eqb (get_or marks l.f 0) 0 w.if-marks-f-ne0.true))),
-=======
         rw (w.runs-is, w.count-is)
             (walk-stands (stand marks) fits l.f below l.invariant.5 (read ∙ ap not (ne_eqb (get_or marks l.f 0) 0 w.if-marks-f-ne0.true))),
->>>>>>> 3e23d7dd6af9ac7e05e90bc029c60e6bd5155e1b
       )
       | else-marks-f-ne0 w ↦ (
         l.invariant.0,
@@ -52,12 +48,8 @@ loop-again c =
         l.invariant.2,
         rw w.runs-is l.invariant.3,
         omega arith,
-<<<<<<< HEAD
-        rw (w.runs-is, w.count-is) (walk-struck (stand marks) fits l.f below l.invariant.5 (read ∙ ap not (eq-eqb (get_or marks l.f 0) 0 w.if-marks-f-ne0.false))),
-=======
         rw (w.runs-is, w.count-is)
             (walk-struck (stand marks) fits l.f below l.invariant.5 (read ∙ ap not (eq-eqb (get_or marks l.f 0) 0 w.if-marks-f-ne0.false))),
->>>>>>> 3e23d7dd6af9ac7e05e90bc029c60e6bd5155e1b
       )
     ]
 

@@ -33,24 +33,16 @@ loop-again c =
         l.loop-x.invariant.1,
         rw (w.levels-is, length-set) l.loop-x.invariant.2,
         omega arith,
-<<<<<<< HEAD
-        rw (w.levels-is, w.many-is) (sifted-next test most_groups l.loop-x.x (omega arith) l.loop-x.invariant.4 (eq-eqb _ _ (sym c.wide.ensures ∙ w.if-wide-k.true))),
-=======
         rw (w.levels-is, w.many-is)
             (sifted-next test most_groups l.loop-x.x (omega arith) l.loop-x.invariant.4 (eq-eqb _ _ (sym c.wide.ensures ∙ w.if-wide-k.true))),
->>>>>>> 3e23d7dd6af9ac7e05e90bc029c60e6bd5155e1b
       )
       | else-wide-k w ↦ (
         omega arith,
         l.loop-x.invariant.1,
         rw w.levels-is l.loop-x.invariant.2,
         omega arith,
-<<<<<<< HEAD
-        rw (w.levels-is, w.many-is) (sifted-passed test most_groups l.loop-x.x l.loop-x.invariant.4 (ne_eqb _ _ (λ e. w.if-wide-k.false (c.wide.ensures ∙ e)))),
-=======
         rw (w.levels-is, w.many-is)
             (sifted-passed test most_groups l.loop-x.x l.loop-x.invariant.4 (ne_eqb _ _ (λ e. w.if-wide-k.false (c.wide.ensures ∙ e)))),
->>>>>>> 3e23d7dd6af9ac7e05e90bc029c60e6bd5155e1b
       )
     ]
 

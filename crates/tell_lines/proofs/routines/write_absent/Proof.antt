@@ -40,15 +40,10 @@ loop-again c =
       omega arith,
       l.loop-x.invariant.1,
       elim c.if-not-holds.branch [
-<<<<<<< HEAD
-        | then-not-holds w ↦ rw (w.room-is, w.end-is) (line-put test line 28 l.loop-x.x (asks ∙ ap not w.if-not-holds.true) l.loop-x.invariant.2 w.write_line-end.ensures)
-        | else-not-holds w ↦ rw (w.room-is, w.end-is) (line-passed test line 28 l.loop-x.x (asks ∙ ap not w.if-not-holds.false) l.loop-x.invariant.2)
-=======
         | then-not-holds w ↦ rw (w.room-is, w.end-is)
             (line-put test line 28 l.loop-x.x (asks ∙ ap not w.if-not-holds.true) l.loop-x.invariant.2 w.write_line-end.ensures)
         | else-not-holds w ↦ rw (w.room-is, w.end-is)
             (line-passed test line 28 l.loop-x.x (asks ∙ ap not w.if-not-holds.false) l.loop-x.invariant.2)
->>>>>>> 3e23d7dd6af9ac7e05e90bc029c60e6bd5155e1b
       ],
     )
 

@@ -49,19 +49,12 @@ loop-again c =
       l.loop-x.invariant.1,
       elim c.if-wide-x.branch [
         | then-wide-x+then-holds w ↦ rw (w.room-is, w.end-is) (line-put test line 342 l.loop-x.x
-<<<<<<< HEAD
-            (and-true _ _ (eq-eqb _ _ (sym c.wide.ensures ∙ w.if-wide-x.true)) (sym w.holds.ensures ∙ w.if-holds.true)) l.loop-x.invariant.2 w.write_group-end.ensures)
-        | else-wide-x w ↦ rw (w.room-is, w.end-is) (line-passed test line 342 l.loop-x.x
-            (elim w.else-wide-x.branch [
-              | else-wide-x-via-then-wide-x+else-holds v ↦ right-false _ _ (eq-eqb _ _ (sym c.wide.ensures ∙ v.if-wide-x.true)) (sym v.holds.ensures ∙ v.if-holds.false)
-=======
             (and-true _ _ (eq-eqb _ _ (sym c.wide.ensures ∙ w.if-wide-x.true)) (sym w.holds.ensures ∙ w.if-holds.true))
             l.loop-x.invariant.2 w.write_group-end.ensures)
         | else-wide-x w ↦ rw (w.room-is, w.end-is) (line-passed test line 342 l.loop-x.x
             (elim w.else-wide-x.branch [
               | else-wide-x-via-then-wide-x+else-holds v ↦
                   right-false _ _ (eq-eqb _ _ (sym c.wide.ensures ∙ v.if-wide-x.true)) (sym v.holds.ensures ∙ v.if-holds.false)
->>>>>>> 3e23d7dd6af9ac7e05e90bc029c60e6bd5155e1b
               | else-wide-x-via-else-wide-x v ↦ left_false _ _ (ne_eqb _ _ (λ e. v.if-wide-x.false (c.wide.ensures ∙ e)))
             ]) l.loop-x.invariant.2)
       ],
