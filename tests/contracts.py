@@ -5,7 +5,7 @@ more may be reached than is cited, and never less.
 """
 import os, re
 
-WORD = re.compile(r'[^\s(){}\[\];,"⌜⌝⟦⟧@]+')
+WORD = re.compile(r'[^\s(){}\[\];,"@]+')
 MARKS = r'(?:unfoldable |abbrev |pub )*'
 
 
@@ -118,7 +118,7 @@ class Specs:
                     end = k
                     while not lines[end].startswith('}') and not lines[end].rstrip().endswith(';'):
                         end += 1
-                    part = Block(lines[start:end + 1], [])
+                    part = Block([l for l in lines[start:end + 1] if not l.startswith('#[')], [])
                     part.names = {m.group(2)} | {v.group(1) for l in lines[k:end] for v in [re.match(r'    (\w+)', l)] if v and m.group(1) == 'enum'}
                     parts.append(part)
                     self.home[crate, 'declared.' + inside + m.group(2), m.group(2)] = (part, crate, module, rust_names(lines, crate))
@@ -132,11 +132,12 @@ class Specs:
 def rust_names(lines, crate):
     """Structs that a struct's fields name: those of the same file, and those that `use` lines bring."""
     names = {}
-    for m in re.finditer(r'^use ([\w:]+)::(?:(\w+)|\{([\w\s,]+)\});', '\n'.join(lines), re.M):
-        path = m.group(1).split('::')
-        home = crate if path[0] == 'crate' else path[0]
-        for name in re.findall(r'\w+', m.group(2) or m.group(3)):
-            names[name] = (home, '.'.join(['declared'] + path[1:] + [name]), name)
+    for m in re.finditer(r'^use ([\w:]+)::(?:(\w+)|\{([^{}]*)\});', '\n'.join(lines), re.M):
+        for leaf in (m.group(2) or m.group(3)).split(','):
+            path = m.group(1).split('::') + leaf.strip().split('::')
+            home = crate if path[0] == 'crate' else path[0]
+            if path[-1]:
+                names[path[-1]] = (home, '.'.join(['declared'] + path[1:]), path[-1])
     for l in lines:
         m = re.match(r'pub(?:\(crate\))? (?:struct|enum) (\w+)', l)
         if m:
@@ -190,7 +191,7 @@ def reached(specs, points):
     seen, todo = set(), []
     def look(words, names, crate, module):
         for word in words:
-            for piece in {word, word.strip('.'), word.lstrip('&'), word.split('.')[0]}:
+            for piece in {word, word.lstrip('&'), *word.split('.')}:
                 at = names.get(piece) or ((crate, module, piece) if (crate, module, piece) in specs.home else None)
                 if at and at in specs.home and id(specs.home[at][0]) not in seen:
                     seen.add(id(specs.home[at][0]))
