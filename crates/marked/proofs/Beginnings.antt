@@ -117,3 +117,8 @@ module _ (p : Plan) (marks : List ℕ) {k : Checked} (e : k ≡ checked_of p) wh
           let begun : refusal (of_marked p marks []) ≡ refusal (of_held rs []) =
           begun-own ∙ rw (are, ne_eqb (length marks) 0 n, eq-eqb (length marks) (runs p) (d ∙ count_runs)) in
           standing-behind rs ∙ ap₂ behind (sym begun) (sym are)
+
+-- marks that are not as many as the runs, in the words of the code, for the search
+pub eight_marked : (p : Plan) (marks : List ℕ) {k : Checked} {r : Refusal} → k ≡ checked_of p → r ≡ plain 8 → k.refused.number ≡ 0 →
+    ¬ (length marks ≡ 0) → ¬ (length marks ≡ k.count) → marked_of p marks ≡ record { refused = r; runs = replicate 256 0; count = 0 }
+eight_marked p marks e q z n d = sym (rw q (marked-eight p marks e z n d))

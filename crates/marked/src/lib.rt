@@ -31,6 +31,7 @@ fn standing_in(marks: &[u8]) -> Standing
 }
 
 // The refusal that the call begins with, and the runs that stand, none in a refusal. Without a mark all runs stand.
+#[tactic(auto, using(crate::proofs::Beginnings::eight_marked))]
 pub fn marked_runs(levels: &[u8], table: &[u8], marks: &[u8]) -> Standing
     ensures { result ≡ marked_of (plan levels.now table.now) marks.now }
 {
