@@ -9,12 +9,17 @@ use Rattle.exact.specs.declared.fractions.Fraction.{Fraction}
 use Rattle.exact.proofs.Lists.{drop-back}
 use Rattle.exact.proofs.Numbers.{mul-below}
 use Rattle.exact.proofs.Tests.{is_true, is_false}
-use Rattle.exact.proofs.Members.{mem-holds, holds-mem}
+use Rattle.exact.proofs.Members.{get_or-mem, mem-holds, holds-mem}
 use Rattle.exact.proofs.Reduced.{reduced-num-≤, reduced-den-≤, reduced-den-pos}
 use Rattle.rules.specs.Plan.{Plan, level, entry, lowest_level, highest_level, most_runs}
 use Rattle.words.specs.Words.{word_of}
-use Rattle.set_words.specs.Given.{Projection, Tabled, over_pairs}
+use Rattle.set_words.specs.Given.{Projection, SomeColumns, Tabled, over_pairs}
 use Rattle.set_words.specs.SetWords.{value_of, relative_of, value_in}
+
+-- ---- the columns
+
+pub column_inside : (m : ℕ) (I : List ℕ) (k : ℕ) → SomeColumns m I → k < length I → get_or I k 0 < m
+column_inside m I k some l = some.inside (get_or I k 0) (get_or-mem I k 0 l)
 
 -- ---- the smallest
 
@@ -50,15 +55,19 @@ module _ {R C : Type 0} (level : C → ℕ) (entry : R → C → ℕ) (rs : List
   unfolding relative_of
   relative-one I m = rw (mem-holds 1 (map level I) m)
 
+pub relative_of_lowest_one : {R C : Type 0} (level : C → ℕ) (entry : R → C → ℕ) (rs : List R) (I : List C) →
+    1 ≤ length I → smallest (map level I) ≡ 1 → relative_of level entry rs I ≡ zero_fraction
+relative_of_lowest_one level entry rs I some e =
+    relative-one level entry rs I
+    (subst (λ s. Memᴰ s (map level I)) e (smallest-mem (map level I) (omega (arith, length-map I level))))
+
 module _ (p : Plan) (rs I : List ℕ) where
   pub value-plain : over_pairs p rs I 1 ≡ value_in false p rs I
   unfolding value_of
   value-plain = rw (mul-one (length rs * length rs))
 
   pub value-one : 1 ≤ length I → smallest (map (level p) I) ≡ 1 → zero_fraction ≡ value_in true p rs I
-  value-one some e =
-      sym (relative-one (level p) (entry p) rs I
-      (subst (λ s. Memᴰ s (map (level p) I)) e (smallest-mem (map (level p) I) (omega (arith, length-map I (level p))))))
+  value-one some e = sym (relative_of_lowest_one (level p) (entry p) rs I some e)
 
   pub value-several : 2 ≤ smallest (map (level p) I) → over_pairs p rs I (smallest (map (level p) I) - 1) ≡ value_in true p rs I
   unfolding relative_of

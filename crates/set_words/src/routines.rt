@@ -143,6 +143,7 @@ pub fn set_word_answer(
 }
 
 // The smallest level of the columns.
+#[tactic(auto, using(crate::proofs::Values::column_inside))]
 pub fn smallest_level(levels: &[u8], columns: &[usize]) -> u8
     requires { SomeColumns (length levels.now) columns.now }
     ensures { result ≡ smallest (map (λ i. get_or levels.now i 0) columns.now) }
@@ -195,6 +196,7 @@ fn word_over(
 }
 
 // The value of a set in the table that is asked for, from its word.
+#[tactic(auto, using(crate::proofs::Values::relative_of_lowest_one))]
 pub fn value(
     levels: &[u8],
     table: &[u8],
