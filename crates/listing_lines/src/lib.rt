@@ -19,6 +19,7 @@ pub struct ListingAnswer {
 }
 
 // The listing of a plan text, or the line of what refuses it, into the lent room.
+#[tactic(auto, using(crate::proofs::Answers::by_room))]
 pub fn listing(text: &[u8], room: &mut [u8]) -> ListingAnswer
     ensures answer { result ≡ listing_answer text.now room.old }
     ensures room { room.new ≡ listing_room text.now room.old }

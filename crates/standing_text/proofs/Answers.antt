@@ -8,8 +8,9 @@ use Rattle.rules.specs.Refusals.{Check, refusal, refuses, accepted, plain, unles
 use Rattle.rules.proofs.Ranges.{unless-refused, unless-accepted, or-refused, or-accepted, or_assoc}
 use Rattle.held.specs.declared.Held.{Held}
 use Rattle.held.specs.declared.HeldAnswer.{HeldAnswer}
-use Rattle.held.specs.Held.{IsHeld, plan_in, standing_in}
-use Rattle.held.proofs.Lent.{none-refuses, some-asks}
+use Rattle.held.specs.Held.{IsHeld, marks_in, plan_in, standing_in}
+use Rattle.held.specs.Given.{standing_of}
+use Rattle.held.proofs.Lent.{none-refuses, some-asks, count-is}
 use Rattle.text.specs.Reader.{read_refusal, filled}
 use Rattle.writer.specs.declared.WriteAnswer.{WriteAnswer}
 use Rattle.writer.specs.Writer.{write_answer}
@@ -96,47 +97,47 @@ Writes h r room after slots past =
     × ((after ≡ filled r.answer.refused (text_in h) room) × (past ≡ numbers_after h r.answer.refused slots))
 
 module _ (h : Held) (room slots : List ℕ) where
-  writes : {after past : List ℕ} {r : TextAnswer} → Answers (text_refusal h (length room) (length slots)) (text_in h) (standing_in h) r room after slots past →
-      Writes h (record { held = h; answer = r }) room after slots past
-  unfolding held_text
-  writes A = (ap (λ x. record { held = h; answer = x }) A.0, A.1)
-
   answers : {after past : List ℕ} {r : HeldText} → Writes h r room after slots past →
       Answers (text_refusal h (length room) (length slots)) (text_in h) (standing_in h) r.answer room after slots past
   unfolding held_text
   answers W = (ap (λ x. x.answer) W.0, W.1)
 
-  -- refused before the text is written
-  pub refused-writes : {x : Refusal} {r : TextAnswer} → text_refusal h (length room) (length slots) ≡ x → ¬ (x.number ≡ 0) → r ≡ refused_by x →
-      Writes h (record { held = h; answer = r }) room room slots slots
-  refused-writes {x} {r} e n q = writes (refused-answers (text_refusal h (length room) (length slots)) (text_in h) (standing_in h) r room slots e n q)
+-- what is answered where no run stands, where the room for the numbers is too small, and where the writer was asked
+module _ (h : Held) (a b : ℕ) where
+  abbrev lent : ℕ
+  lent = (standing_of (marks_in h)).count
 
--- the writer was asked
-module _ {h : Held} (H : IsHeld h) (n : ¬ (h.runs ≡ 0)) (room slots : List ℕ) (l : length (standing_in h) ≤ length slots) {w : WriteAnswer}
-    (e : w ≡ write_answer (plan_in h) (standing_in h) (λ checks. checks) (length room)) {after : List ℕ}
-    (f : after ≡ filled w.refused (text_in h) room) where
-  by-writer : text_refusal h (length room) (length slots) ≡ w.refused
-  by-writer = as_written H (length room) (length slots) n l ∙ sym (ap (λ x. x.refused) e)
+  abbrev asked : WriteAnswer
+  asked = write_answer (plan_in h) (standing_in h) (λ checks. checks) a
 
-  bytes-written : w.bytes ≡ unless w.refused 0 (length (text_in h))
+  pub none-text : IsHeld h → h.runs ≡ 0 → held_text h a b ≡ record { held = h; answer = refused_by (plain 10) }
+  unfolding held_text
+  none-text H e = rw (none-stand H a b e) refl
+
+  pub small-text : IsHeld h → ¬ (h.runs ≡ 0) → b < lent → held_text h a b ≡ record { held = h; answer = refused_by (plain 7) }
+  unfolding held_text
+  small-text H n l = rw (small-numbers H a b n (rw (count-is H refl) at l)) refl
+
+  pub refused-text : IsHeld h → ¬ (h.runs ≡ 0) → lent ≤ b → ¬ (asked.refused.number ≡ 0) →
+      held_text h a b ≡ record { held = h; answer = refused_by asked.refused }
+  unfolding held_text
+  refused-text H n l m =
+      let r = asked.refused in
+      rw (as_written H a b n (rw (count-is H refl) at l), unless-refused r 0 (length (text_in h)) m, unless-refused r 0 (length (standing_in h)) m) refl
+
+  bytes-written : asked.bytes ≡ unless asked.refused 0 (length (text_in h))
   unfolding write_answer
-  bytes-written = rw e
+  bytes-written = refl
 
-  pub not_written : {r : TextAnswer} → ¬ (w.refused.number ≡ 0) → r ≡ refused_by w.refused →
-      Writes h (record { held = h; answer = r }) room after slots slots
-  not_written {r} m q =
-      let A = refused-answers (text_refusal h (length room) (length slots)) (text_in h) (standing_in h) r room slots by-writer m q in
-      writes h room slots (A.0, (rw (ap (λ x. x.refused) q) f, A.1.1))
+  pub whole-text : IsHeld h → ¬ (h.runs ≡ 0) → lent ≤ b → asked.refused.number ≡ 0 →
+      held_text h a b ≡ record { held = h; answer = record { refused = asked.refused; bytes = asked.bytes; runs = lent } }
+  unfolding held_text
+  whole-text H n l z =
+      rw (as_written H a b n (rw (count-is H refl) at l))
+      (ap₂ (λ bytes runs. record { held = h; answer = record { refused = asked.refused; bytes = bytes; runs = runs } }) (sym bytes-written)
+      (unless-accepted asked.refused 0 (length (standing_in h)) z ∙ sym (count-is H refl)))
 
-  pub written : {past : List ℕ} {k : ℕ} → w.refused.number ≡ 0 → k ≡ length (standing_in h) → past ≡ into (standing_in h) slots →
-      Writes h (record { held = h; answer = record { refused = w.refused; bytes = w.bytes; runs = k } }) room after slots past
-  written z c g =
-      writes h room slots (
-        rw by-writer
-            (ap₂ (λ b k. record { refused = w.refused; bytes = b; runs = k }) bytes-written
-            (c ∙ sym (unless-accepted w.refused 0 (length (standing_in h)) z))),
-        (f, g ∙ sym (unless-accepted w.refused slots (into (standing_in h) slots) z)),
-      )
+pub ruleset by_rooms = (none-text, small-text, refused-text, whole-text)
 
 -- ---- a text without the lost runs
 

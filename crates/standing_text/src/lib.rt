@@ -28,6 +28,7 @@ pub struct HeldText {
 }
 
 // The text of the standing runs to one room, their original numbers to the other: refusals 10 and 7.
+#[tactic(auto, using(crate::proofs::Answers::by_rooms))]
 pub fn write(held: Held, room: &mut [u8], numbers: &mut [usize]) -> HeldText
     requires { IsHeld held }
     ensures answer { result ≡ held_text held (length room.old) (length numbers.old) }

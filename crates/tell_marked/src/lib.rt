@@ -15,6 +15,7 @@ use tell_lines::routines::write_tell;
 pub const MOST_BYTES: usize = 144_000;
 
 // The lines, where nothing is refused: the number of their bytes, zero in a refusal, which leaves the room as it was.
+#[tactic(auto, using(crate::proofs::Answers::by_room))]
 pub fn tell_marked(
     levels: &[u8],
     table: &[u8],
