@@ -90,7 +90,7 @@ static long used(void)
 
 static const struct { const char *name; void (*work)(void); long limit; } calls[] = {
     { "crumb_word", ask_word, 2048 },
-    { "crumb_listing", ask_listing, 196608 },
+    { "crumb_listing", ask_listing, 262144 },
     { "crumb_write", ask_write, 32768 },
     { "crumb_rewrite", ask_rewrite, 65536 },
     { "crumb_tell", ask_tell, 196608 },

@@ -99,6 +99,8 @@ fn remarked(held: Held, run: usize, stands: bool) -> Held
 }
 
 // A strike needs a standing run and two or more standing.
+// Kept out of its callers, which would hold each copy of the plan.
+#[inline(never)]
 pub fn strike(held: Held, run: usize) -> HeldAnswer
     requires { IsHeld held }
     ensures { result ≡ call_answer held (strikes run) }

@@ -120,6 +120,8 @@ fn once_by_cells(
 }
 
 // The same, with counters for those cells that the plan may have, of the counters lent.
+// In its caller, a word takes less than 2,048 bytes of stack.
+#[inline(always)]
 fn once_in(counts: &mut [u16], samples: &mut [u16], levels: &[u8], table: &[u8]) -> [i64; 24]
     requires { Good (plan levels.now table.now) × Lent counts.old samples.old }
     ensures { let p = plan levels.now table.now in result ≡ once_list p (every_run p) }

@@ -30,6 +30,8 @@ pub fn row(levels: &[u8], table: &[u8], runs: &[usize], f: usize) -> Sums
 
 // For the run at each place of the list, its row sums over the runs at the other places. Each pair is visited once, and added to both rows.
 // By place and not by number: a list may name a run twice, and by number such a run would get its pairs twice.
+// Kept out of its callers, which would hold its rows beside their own.
+#[inline(never)]
 fn others_by_pairs(levels: &[u8], table: &[u8], runs: &[usize]) -> [Sums; 256]
     requires { Sound (plan levels.now table.now) runs.now }
     ensures { result ≡ others_by_place (plan levels.now table.now) runs.now }
@@ -53,6 +55,8 @@ fn others_by_pairs(levels: &[u8], table: &[u8], runs: &[usize]) -> [Sums; 256]
 }
 
 // The same with the pairs of each run counted by cell.
+// Kept out of its callers, as above.
+#[inline(never)]
 fn others_in(
     counts: &mut [u16],
     samples: &mut [u16],
@@ -163,6 +167,8 @@ fn words_from(once: [i64; 24], levels: &[u8], table: &[u8]) -> [i64; 24]
 }
 
 // The words of an accepted plan: each pair of different runs visited once and counted double, at the end the pairs of a run with itself.
+// Kept out of its callers, which would hold its counters.
+#[inline(never)]
 pub fn words_of_plan(levels: &[u8], table: &[u8]) -> [i64; 24]
     requires { Good (plan levels.now table.now) }
     ensures { let p = plan levels.now table.now in result ≡ word_list p (every_run p) }
