@@ -102,7 +102,7 @@ int64_t crumb_word(const uint8_t *levels, size_t columns,
  * they were. Where the room is smaller than the listing the answer is -7 and
  * no byte of the room is written.
  *
- * Stack: less than 192 KB.
+ * Stack: less than 256 KB.
  */
 int64_t crumb_listing(const uint8_t *text, size_t length,
                       uint8_t *room, size_t bytes);
