@@ -1,8 +1,10 @@
 -- Document 01, "The held plan": advice, and losing in turn, of the listing's plan and of one with a run more, from the definitions.
 use Rattle.exact.proofs.Ground.{List, [], ◌∷◌, map, ◌≡◌, refl, ℕ}
+use Rattle.std.specs.Prelude.{Result, Ok, Err}
 use Rattle.exact.specs.Fractions.{smaller_fraction}
 use Rattle.best.specs.Best.{best}
 use Rattle.rules.specs.Plan.{Plan, plan, every_run}
+use Rattle.rules.specs.declared.Refusal.{Refusal}
 use Rattle.rules.specs.Refusals.{of_plan, first_bad_level, first_bad_entry}
 use Rattle.words.specs.Words.{score, word_of, word}
 use Rattle.compare.specs.Compare.{A, pattern, compare_patterns}
@@ -13,11 +15,15 @@ data Question : Type 0 where
   advised : Plan → Question
   turns : Plan → ℕ → Question
 
--- the refusal's number, then the runs
+-- the refusal's number, or 0 and then the runs
+says : {A : Type 0} → (A → List ℕ) → Result A Refusal → List ℕ
+says runs (Ok value) = 0 ∷ runs value
+says runs (Err r) = r.number ∷ []
+
 ask : Question → List ℕ
-unfolding first_bad_level first_bad_entry smaller_fraction score word_of word A pattern compare_patterns best advice in_turn advice_answer turns_answer
-ask (advised p) = let a = advice_answer p (every_run p) (of_plan p) in a.refused.number ∷ a.run ∷ []
-ask (turns p k) = let a = turns_answer p (every_run p) (of_plan p) k in a.refused.number ∷ a.runs
+unfolding says first_bad_level first_bad_entry smaller_fraction score word_of word A pattern compare_patterns best advice in_turn advice_answer turns_answer
+ask (advised p) = says (λ f. f ∷ []) (advice_answer p (every_run p) (of_plan p))
+ask (turns p k) = says (λ fs. fs) (turns_answer p (every_run p) (of_plan p) k)
 
 record Figure : Type 0 where
   question : Question
@@ -37,14 +43,14 @@ figures : List Figure
 figures =
     is (advised listed) (0 ∷ 0 ∷ [])
     ∷ is (advised longer) (0 ∷ 3 ∷ [])
-    -- in the order taken, each time of the runs that are left; zero in the places left over
+    -- in the order taken, each time of the runs that are left
     ∷ is (turns longer 3) (0 ∷ 3 ∷ 0 ∷ 1 ∷ [])
-    ∷ is (turns longer 1) (0 ∷ 3 ∷ 0 ∷ 0 ∷ [])
-    ∷ is (turns listed 2) (0 ∷ 0 ∷ 1 ∷ 0 ∷ [])
+    ∷ is (turns longer 1) (0 ∷ 3 ∷ [])
+    ∷ is (turns listed 2) (0 ∷ 0 ∷ 1 ∷ [])
     -- more than k must stand; 6 ahead of 10
-    ∷ is (turns listed 3) (10 ∷ 0 ∷ 0 ∷ 0 ∷ [])
-    ∷ is (turns listed 4) (6 ∷ 0 ∷ 0 ∷ 0 ∷ [])
-    ∷ is (turns listed 0) (6 ∷ 0 ∷ 0 ∷ 0 ∷ [])
+    ∷ is (turns listed 3) (10 ∷ [])
+    ∷ is (turns listed 4) (6 ∷ [])
+    ∷ is (turns listed 0) (6 ∷ [])
     ∷ []
 
 advice-figures : map (λ x. ask x.question) figures ≡ map (λ x. x.answer) figures

@@ -1,14 +1,11 @@
 -- The turns of the loops: two rows compared length by length, and runs kept one after the other.
-use Rattle.exact.proofs.Ground.{not, List, [], ◌∷◌, ◌++◌, append-nil, ◌≡◌, ◌∙◌, sym, ap, refl, ap₂, ℕ, ◌≤◌, ◌<◌, ◌+◌, add-one, arith, eqb, eqb→eq}
-use Rattle.exact.proofs.Ground.{eqb_refl, pos, ℤ, length, get_or, take, drop, replicate, set, length-append, length-take-le, take-suc, drop-cons}
-use Rattle.exact.proofs.Ground.{drop-length, get_or-take}
-use Rattle.exact.specs.Lists.{into}
+use Rattle.exact.proofs.Ground.{not, List, [], ◌∷◌, ◌++◌, append-nil, ◌≡◌, ◌∙◌, sym, ap, ap₂, ℕ, ◌≤◌, ◌<◌, ◌+◌, add-one, arith, eqb, eqb→eq}
+use Rattle.exact.proofs.Ground.{eqb_refl, pos, ℤ, length, get_or, take, drop, length-take-le, take-suc, drop-cons, drop-length, get_or-take}
 use Rattle.exact.specs.Fractions.{then}
 use Rattle.exact.specs.declared.fractions.Verdict.{Verdict}
 use Rattle.exact.specs.declared.fractions.Verdict.TheVariants.{Equal}
 use Rattle.exact.proofs.Tests.{is_true, is_false}
-use Rattle.exact.proofs.Lists.{keep-++}
-use Rattle.exact.proofs.Rooms.{store-next}
+use Rattle.exact.proofs.Lists.{keep-++, keep-most}
 use Rattle.advice.specs.Advice.{without}
 use Rattle.advice.specs.Rows.{larger, larger_row}
 
@@ -41,33 +38,12 @@ module _ (f : ℕ) (runs : List ℕ) (i : ℕ) (h : i < length runs) where
   without-turn : without f (take (i + 1) runs) ≡ without f (take i runs) ++ without f (get_or runs i 0 ∷ [])
   without-turn = ap (without f) (ap (λ k. take k runs) (add-one i) ∙ take-suc runs i 0 h) ∙ keep-++ (λ g. not (eqb g f)) (take i runs) (get_or runs i 0 ∷ [])
 
-  run-lost : get_or runs i 0 ≡ f → without f (take (i + 1) runs) ≡ without f (take i runs)
+  pub run-lost : get_or runs i 0 ≡ f → without f (take (i + 1) runs) ≡ without f (take i runs)
   run-lost e = without-turn ∙ rw (is_true (eqb (get_or runs i 0) f) (rw e (eqb_refl f))) (append-nil (without f (take i runs)))
 
-  run-kept : ¬ (get_or runs i 0 ≡ f) → without f (take (i + 1) runs) ≡ without f (take i runs) ++ get_or runs i 0 ∷ []
+  pub run-kept : ¬ (get_or runs i 0 ≡ f) → without f (take (i + 1) runs) ≡ without f (take i runs) ++ get_or runs i 0 ∷ []
   run-kept n = without-turn ∙ rw (is_false (eqb (get_or runs i 0) f) (λ t. n (eqb→eq (get_or runs i 0) f t)))
 
--- a list in a room, and one member more
-pub into_next : {A : Type 0} (xs d : List A) (v : A) → length xs < length d → set (into xs d) (length xs) v ≡ into (xs ++ v ∷ []) d
-into_next xs d v h =
-    store-next xs d (length xs) v v refl h ∙ ap (λ k. (xs ++ v ∷ []) ++ drop k d) (sym (length-append xs (v ∷ [])))
-
--- of the first i runs, the n but f are in the room
-pub record Passed (f : ℕ) (runs room : List ℕ) (n i : ℕ) : Type 0 where
-  pub few : n ≤ i
-  pub many : n ≡ length (without f (take i runs))
-  pub there : room ≡ into (without f (take i runs)) (replicate 256 0)
-
-module _ {f : ℕ} {runs room : List ℕ} {n i : ℕ} (P : Passed f runs room n i) (h : i < length runs) (k : length runs ≤ 256) where
-  pub passed-lost : get_or runs i 0 ≡ f → Passed f runs room n (i + 1)
-  passed-lost e = let same = run-lost f runs i h e in record { few = omega (arith, P.few); many = rw same P.many; there = rw same P.there }
-
-  pub passed-kept : ¬ (get_or runs i 0 ≡ f) → Passed f runs (set room n (get_or runs i 0)) (n + 1) (i + 1)
-  passed-kept d =
-      let kept = without f (take i runs) in
-      let next = run-kept f runs i h d in
-      record {
-        few = omega (arith, P.few);
-        many = rw (next, length-append kept (get_or runs i 0 ∷ [])) (ap (λ j. j + 1) P.many);
-        there = rw (P.there, P.many, next) (into_next kept (replicate 256 0) (get_or runs i 0) (omega (arith, P.few, P.many)));
-      }
+-- no more than were looked at
+pub without-within : (f : ℕ) (runs : List ℕ) (i : ℕ) → i ≤ length runs → length (without f (take i runs)) ≤ i
+without-within f runs i h = omega (arith, keep-most (λ g. not (eqb g f)) (take i runs), length-take-le i runs h)

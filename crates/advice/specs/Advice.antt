@@ -1,14 +1,12 @@
 -- Document 01, "The held plan": advice on the run to lose, of the runs rs that stand.
-use Rattle.std.specs.Prelude.{not, List, [], ◌∷◌, ℕ, zero, suc, ◌+◌, eqb, length, replicate}
-use Rattle.exact.specs.Lists.{keep, filled_to}
+use Rattle.std.specs.Prelude.{not, List, [], ◌∷◌, ℕ, zero, suc, ◌+◌, eqb, length, Result}
+use Rattle.exact.specs.Lists.{keep}
 use Rattle.exact.specs.declared.fractions.Verdict.{Verdict}
 use Rattle.best.specs.Best.{lowest, best}
 use Rattle.rules.specs.Plan.{Plan, every_column}
 use Rattle.rules.specs.declared.Refusal.{Refusal}
-use Rattle.rules.specs.Refusals.{Check, refusal, unless, bad_number, too_few}
+use Rattle.rules.specs.Refusals.{Check, refusal, answered, bad_number, too_few}
 use Rattle.compare.specs.Judged.{Judged, compare_judged}
-use Rattle.advice.specs.declared.AdviceAnswer.{AdviceAnswer}
-use Rattle.advice.specs.declared.TurnsAnswer.{TurnsAnswer}
 
 -- the runs but run f
 abbrev pub without : ℕ → List ℕ → List ℕ
@@ -43,16 +41,10 @@ abbrev pub turns_checks : ℕ → List ℕ → List Check
 turns_checks k rs = bad_number k ∷ too_few (k + 1) (length rs) ∷ []
 
 module _ (p : Plan) (rs : List ℕ) where
-  -- the refusal, and beside it the run advised
-  abbrev pub advice_beside : Refusal → AdviceAnswer
-  advice_beside r = record { refused = r; run = unless r 0 (advice p rs) }
+  -- the run advised
+  unfoldable pub advice_answer : (List Check → List Check) → Result ℕ Refusal
+  advice_answer start = answered (refusal (start (advice_checks rs))) (advice p rs)
 
-  unfoldable pub advice_answer : (List Check → List Check) → AdviceAnswer
-  advice_answer start = advice_beside (refusal (start (advice_checks rs)))
-
-  -- the refusal, and beside it the runs lost in turn
-  abbrev pub turns_beside : ℕ → Refusal → TurnsAnswer
-  turns_beside k r = record { refused = r; runs = unless r (replicate 3 0) (filled_to 3 0 (in_turn p k rs)) }
-
-  unfoldable pub turns_answer : (List Check → List Check) → ℕ → TurnsAnswer
-  turns_answer start k = turns_beside k (refusal (start (turns_checks k rs)))
+  -- the runs lost in turn
+  unfoldable pub turns_answer : (List Check → List Check) → ℕ → Result (List ℕ) Refusal
+  turns_answer start k = answered (refusal (start (turns_checks k rs))) (in_turn p k rs)

@@ -1,72 +1,61 @@
 // For our own crates: advice on runs of a plan that stand, each named by its number.
 ghost use Rattle.std.specs.Prelude.{◌≡◌, [], ◌∷◌, ◌+◌, ◌≤◌, ◌<◌, length, take};
-ghost use Rattle.exact.specs.Lists.{filled_to};
 ghost use Rattle.exact.specs.Fractions.{is_better};
 ghost use Rattle.rules.specs.Plan.{plan, most_columns, most_runs};
-ghost use Rattle.rules.specs.Refusals.{refusal, or_else, bad_number, too_few};
-ghost use Rattle.advice.specs.Advice.{without, advice, in_turn, advice_checks, advice_beside, turns_checks, turns_beside};
+ghost use Rattle.rules.specs.Refusals.{refusal, answered, bad_number, too_few};
+ghost use Rattle.advice.specs.Advice.{without, advice, in_turn, advice_checks, turns_checks};
 ghost use Rattle.advice.specs.Given.{Standing};
 ghost use Rattle.advice.specs.Rows.{larger, larger_row};
 
-use crate::{AdviceAnswer, TurnsAnswer};
 use exact::fractions::Verdict;
-use exact::signed;
+use exact::listed::Numbers;
 use rules::Refusal;
+use rules::sizes::MOST_RUNS;
 use words::Sums;
 
 // The larger row sum is better to lose.
-pub(crate) fn larger(a: i64, b: i64) -> Verdict
-    ensures { result ≡ larger a b }
+pub(crate) fn larger(a: &i64, b: &i64) -> Verdict
+    ensures { result ≡ larger a.now b.now }
 {
-    if signed::lt(b, a) {
-        return Verdict::Better;
-    }
-    if signed::lt(a, b) {
-        return Verdict::Worse;
-    }
-    Verdict::Equal
+    Verdict::from(b.cmp(a))
 }
 
 // Whether the row sums a are larger than b at the first of the lengths 1 to m at which they differ.
-pub(crate) fn larger_row(a: Sums, b: Sums, m: usize) -> bool
-    requires { (length a.sums ≡ most_columns) × ((length b.sums ≡ most_columns) × (m ≤ most_columns)) }
-    ensures { result ≡ is_better (larger_row (take m a.sums) (take m b.sums)) }
+#[tactic(auto, unfolding(crate::specs::Rows::larger_row))]
+pub(crate) fn larger_row(a: &Sums, b: &Sums, m: usize) -> bool
+    requires { (length a.now.sums ≡ most_columns) × ((length b.now.sums ≡ most_columns) × (m ≤ most_columns)) }
+    ensures { result ≡ is_better (larger_row (take m a.now.sums) (take m b.now.sums)) }
 {
-    let x = a.sums;
-    let y = b.sums;
-    for j in 0..m {
-        match larger(x[j], y[j]) {
-            Verdict::Better => return true,
-            Verdict::Worse => return false,
-            Verdict::Equal => {}
+    for (x, y) in a.sums[..m].iter().zip(&b.sums[..m]) {
+        let verdict = larger(x, y);
+        if verdict != Verdict::Equal {
+            return verdict == Verdict::Better;
         }
     }
     false
 }
 
-// The runs, and zero in each place left over.
-pub(crate) fn copied(runs: &[usize]) -> [usize; 256]
+// The runs, in a list that can be shortened.
+pub(crate) fn copied(runs: &[usize]) -> Numbers<MOST_RUNS>
     requires { length runs.now ≤ most_runs }
-    ensures { result ≡ filled_to most_runs 0 runs.now }
+    ensures { result ≡ runs.now }
 {
-    let mut left = [0usize; 256];
-    for i in 0..runs.len() {
-        left[i] = runs[i];
+    let mut left = Numbers::new();
+    for run in runs {
+        left.push(*run);
     }
     left
 }
 
-// The runs but run f, and zero in each place left over.
-pub(crate) fn without(f: usize, runs: &[usize]) -> [usize; 256]
+// The runs but run f.
+pub(crate) fn without(f: usize, runs: &[usize]) -> Numbers<MOST_RUNS>
     requires { length runs.now ≤ most_runs }
-    ensures { result ≡ filled_to most_runs 0 (without f runs.now) }
+    ensures { result ≡ without f runs.now }
 {
-    let mut left = [0usize; 256];
-    let mut n = 0;
-    for i in 0..runs.len() {
-        if runs[i] != f {
-            left[n] = runs[i];
-            n += 1;
+    let mut left = Numbers::new();
+    for run in runs {
+        if *run != f {
+            left.push(*run);
         }
     }
     left
@@ -81,82 +70,59 @@ pub fn advice(levels: &[u8], table: &[u8], runs: &[usize]) -> usize
     let rows = words::routines::rows_of_others(levels, table, runs);
     let mut best = 0;
     for i in 1..runs.len() {
-        let next = rows[i];
-        let kept = rows[best];
-        if larger_row(next, kept, m) {
+        if larger_row(&rows[i], &rows[best], m) {
             best = i;
         }
     }
     runs[best]
 }
 
-// The advice taken k times in turn, and zero in each place left over.
-pub fn in_turn(levels: &[u8], table: &[u8], runs: &[usize], k: usize) -> [usize; 3]
+// The advice taken k times in turn.
+pub fn in_turn(levels: &[u8], table: &[u8], runs: &[usize], k: usize) -> Numbers<3>
     requires { Standing (plan levels.now table.now) runs.now × ((k ≤ 3) × (k < length runs.now)) }
-    ensures { result ≡ filled_to 3 0 (in_turn (plan levels.now table.now) k runs.now) }
+    ensures { result ≡ in_turn (plan levels.now table.now) k runs.now }
 {
-    let mut lost = [0usize; 3];
+    let mut lost = Numbers::new();
     let mut left = copied(runs);
-    let mut n = runs.len();
-    for t in 0..k {
-        let f = advice(levels, table, &left[..n]);
-        lost[t] = f;
-        left = without(f, &left[..n]);
-        n -= 1;
+    while lost.len() < k {
+        let f = advice(levels, table, left.as_slice());
+        lost.push(f);
+        left = without(f, left.as_slice());
     }
     lost
 }
 
-// The answer for the runs that stand, behind the refusal that the call begins with: 10 where fewer than two stand.
-pub fn advice_answer(refused: Refusal, levels: &[u8], table: &[u8], runs: &[usize]) -> AdviceAnswer
-    requires { refused.number ≡ 0 → Standing (plan levels.now table.now) runs.now }
+// The answer for the runs that stand: 10 where fewer than two stand.
+pub fn advice_answer(levels: &[u8], table: &[u8], runs: &[usize]) -> Result<usize, Refusal>
+    requires { Standing (plan levels.now table.now) runs.now }
     ensures { let p = plan levels.now table.now in let rs = runs.now in
-        result ≡ advice_beside p rs (or_else refused (refusal (advice_checks rs))) }
+        result ≡ answered (refusal (advice_checks rs)) (advice p rs) }
 {
-    let refused = refused.or_else(Refusal::too_few(2, runs.len()));
-    if refused.number != 0 {
-        return AdviceAnswer { refused, run: 0 };
-    }
-    AdviceAnswer {
-        refused,
-        run: advice(levels, table, runs),
-    }
+    Refusal::too_few(2, runs.len())?;
+    Ok(advice(levels, table, runs))
 }
 
 // Refusals 6 and 10: k is outside 1 to 3, or no more than k runs stand.
-fn check_turns(k: usize, standing: usize) -> Refusal
-    ensures { result ≡ refusal (bad_number k ∷ too_few (k + 1) standing ∷ []) }
+fn check_turns(k: usize, standing: usize) -> Result<(), Refusal>
+    ensures { result ≡ answered (refusal (bad_number k ∷ too_few (k + 1) standing ∷ [])) tt }
 {
-    if k < 1 {
-        return Refusal::plain(6);
-    }
-    if 3 < k {
-        return Refusal::plain(6);
+    if k < 1 || 3 < k {
+        return Err(Refusal::plain(6));
     }
     Refusal::too_few(k + 1, standing)
 }
 
-// The answer for losing in turn, behind the refusal that the call begins with.
+// The answer for losing in turn.
 pub fn turns_answer(
-    refused: Refusal,
     levels: &[u8],
     table: &[u8],
     runs: &[usize],
     k: usize,
-) -> TurnsAnswer
-    requires { refused.number ≡ 0 → Standing (plan levels.now table.now) runs.now }
+) -> Result<Numbers<3>, Refusal>
+    requires { Standing (plan levels.now table.now) runs.now }
     ensures { let p = plan levels.now table.now in let rs = runs.now in
-        result ≡ turns_beside p rs k (or_else refused (refusal (turns_checks k rs))) }
+        result ≡ answered (refusal (turns_checks k rs)) (in_turn p k rs) }
 {
-    let refused = refused.or_else(check_turns(k, runs.len()));
-    if refused.number != 0 {
-        return TurnsAnswer {
-            refused,
-            runs: [0; 3],
-        };
-    }
-    TurnsAnswer {
-        refused,
-        runs: in_turn(levels, table, runs, k),
-    }
+    check_turns(k, runs.len())?;
+    Ok(in_turn(levels, table, runs, k))
 }

@@ -1,11 +1,13 @@
 // For the tests: each question to a plan as a C function (tests/asked.h). It answers the refusal's number, 0 where there is none. The
-// refusal's places and the numbers of the answer go to the lent rooms.
+// refusal's places and the numbers of the answer go to the lent rooms; in a refusal the numbers are zero.
 #![tactic(auto)]
 
-ghost use Rattle.std.specs.Prelude.{◌≡◌, []};
+ghost use Rattle.std.specs.Prelude.{◌≡◌, [], None};
+ghost use Rattle.std.specs.Result.{result_unwrap_or};
+ghost use Rattle.exact.specs.Lists.{filled_to};
 ghost use Rattle.rules.specs.Plan.{plan, every_run};
-ghost use Rattle.rules.specs.Refusals.{of_plan};
-ghost use Rattle.words.specs.Answers.{words_answer, row_sums_answer, diagonal_answer};
+ghost use Rattle.rules.specs.Refusals.{of_plan, refusal_in};
+ghost use Rattle.words.specs.Answers.{zeros, words_answer, row_sums_answer, diagonal_answer};
 ghost use Rattle.counts.specs.Counts.{strength_answer};
 ghost use Rattle.resolution.specs.Resolution.{resolution_answer};
 ghost use Rattle.resolution.specs.Charts.{chart_answer, figure_answer};
@@ -14,7 +16,7 @@ ghost use Rattle.advice.specs.Advice.{advice_answer, turns_answer};
 ghost use Rattle.sets.specs.Sets.{place_answer, set_answer};
 ghost use Rattle.asked.specs.Asked.{places_of, row_at, figures_of, case_of, ratio_in, numbers_of};
 
-use numbers::{case_of, numbers_of, ratio_in};
+use numbers::{case_of, figures_of, in_row, numbers_of, ratio_in, row_at, told};
 
 pub mod numbers;
 
@@ -26,18 +28,15 @@ pub fn asked_words(
     places: &mut [usize; 2],
 ) -> u64
     ensures refused { let p = plan levels.now table.now in
-        result ≡ (words_answer p (every_run p) (of_plan p)).refused.number }
+        result ≡ (refusal_in (words_answer p (every_run p) (of_plan p))).number }
     ensures words { let p = plan levels.now table.now in
-        words.new ≡ (words_answer p (every_run p) (of_plan p)).words }
+        words.new ≡ result_unwrap_or (words_answer p (every_run p) (of_plan p)) zeros }
     ensures places { let p = plan levels.now table.now in
-        places.new ≡ places_of (words_answer p (every_run p) (of_plan p)).refused }
+        places.new ≡ places_of (refusal_in (words_answer p (every_run p) (of_plan p))) }
 {
     let answer = words::words(levels, table);
-    let numbers = answer.words;
-    let refused = answer.refused;
-    *words = numbers;
-    *places = [refused.first, refused.second];
-    refused.number
+    *words = answer.unwrap_or([0; 24]);
+    told(&answer, places)
 }
 
 // The row sums of a run, or of a place without one.
@@ -49,34 +48,26 @@ pub fn asked_row_sums(
     places: &mut [usize; 2],
 ) -> u64
     ensures refused { let p = plan levels.now table.now in
-        result ≡ (row_sums_answer p (every_run p) (of_plan p)).refused.number }
+        result ≡ (refusal_in (row_sums_answer p (every_run p) (of_plan p))).number }
     ensures sums { let p = plan levels.now table.now in
         sums.new ≡ row_at (row_sums_answer p (every_run p) (of_plan p)) run }
     ensures places { let p = plan levels.now table.now in
-        places.new ≡ places_of (row_sums_answer p (every_run p) (of_plan p)).refused }
+        places.new ≡ places_of (refusal_in (row_sums_answer p (every_run p) (of_plan p))) }
 {
     let answer = words::row_sums(levels, table);
-    let rows = answer.rows;
-    let row = rows[run as usize];
-    let numbers = row.sums;
-    let refused = answer.refused;
-    *sums = numbers;
-    *places = [refused.first, refused.second];
-    refused.number
+    *sums = row_at(&answer, run);
+    told(&answer, places)
 }
 
 // E_1, E_2, ..
 pub fn asked_diagonal(levels: &[u8], sums: &mut [i64; 24], places: &mut [usize; 2]) -> u64
-    ensures refused { result ≡ (diagonal_answer (plan levels.now [])).refused.number }
-    ensures sums { sums.new ≡ (diagonal_answer (plan levels.now [])).sums }
-    ensures places { places.new ≡ places_of (diagonal_answer (plan levels.now [])).refused }
+    ensures refused { result ≡ (refusal_in (diagonal_answer (plan levels.now []))).number }
+    ensures sums { sums.new ≡ result_unwrap_or (diagonal_answer (plan levels.now [])) zeros }
+    ensures places { places.new ≡ places_of (refusal_in (diagonal_answer (plan levels.now []))) }
 {
     let answer = words::diagonal(levels);
-    let numbers = answer.sums;
-    let refused = answer.refused;
-    *sums = numbers;
-    *places = [refused.first, refused.second];
-    refused.number
+    *sums = answer.unwrap_or([0; 24]);
+    told(&answer, places)
 }
 
 // The strength.
@@ -87,17 +78,15 @@ pub fn asked_strength(
     places: &mut [usize; 2],
 ) -> u64
     ensures refused { let p = plan levels.now table.now in
-        result ≡ (strength_answer p (every_run p) (of_plan p)).refused.number }
+        result ≡ (refusal_in (strength_answer p (every_run p) (of_plan p))).number }
     ensures strength { let p = plan levels.now table.now in
-        strength.new ≡ (strength_answer p (every_run p) (of_plan p)).strength }
+        strength.new ≡ result_unwrap_or (strength_answer p (every_run p) (of_plan p)) 0 }
     ensures places { let p = plan levels.now table.now in
-        places.new ≡ places_of (strength_answer p (every_run p) (of_plan p)).refused }
+        places.new ≡ places_of (refusal_in (strength_answer p (every_run p) (of_plan p))) }
 {
     let answer = counts::strength(levels, table);
-    let refused = answer.refused;
-    *strength = answer.strength;
-    *places = [refused.first, refused.second];
-    refused.number
+    *strength = answer.unwrap_or(0);
+    told(&answer, places)
 }
 
 // R.
@@ -108,17 +97,15 @@ pub fn asked_resolution(
     places: &mut [usize; 2],
 ) -> u64
     ensures refused { let p = plan levels.now table.now in
-        result ≡ (resolution_answer p (every_run p) (of_plan p)).refused.number }
+        result ≡ (refusal_in (resolution_answer p (every_run p) (of_plan p))).number }
     ensures resolution { let p = plan levels.now table.now in
-        resolution.new ≡ (resolution_answer p (every_run p) (of_plan p)).resolution }
+        resolution.new ≡ result_unwrap_or (resolution_answer p (every_run p) (of_plan p)) 0 }
     ensures places { let p = plan levels.now table.now in
-        places.new ≡ places_of (resolution_answer p (every_run p) (of_plan p)).refused }
+        places.new ≡ places_of (refusal_in (resolution_answer p (every_run p) (of_plan p))) }
 {
     let answer = resolution::resolution(levels, table);
-    let refused = answer.refused;
-    *resolution = answer.resolution;
-    *places = [refused.first, refused.second];
-    refused.number
+    *resolution = answer.unwrap_or(0);
+    told(&answer, places)
 }
 
 // A_R, A_(R+1) and the largest ratio.
@@ -129,18 +116,15 @@ pub fn asked_chart(
     places: &mut [usize; 2],
 ) -> u64
     ensures refused { let p = plan levels.now table.now in
-        result ≡ (chart_answer p (every_run p) (of_plan p)).refused.number }
+        result ≡ (refusal_in (chart_answer p (every_run p) (of_plan p))).number }
     ensures figures { let p = plan levels.now table.now in
-        figures.new ≡ figures_of (chart_answer p (every_run p) (of_plan p)).chart }
+        figures.new ≡ figures_of (chart_answer p (every_run p) (of_plan p)) }
     ensures places { let p = plan levels.now table.now in
-        places.new ≡ places_of (chart_answer p (every_run p) (of_plan p)).refused }
+        places.new ≡ places_of (refusal_in (chart_answer p (every_run p) (of_plan p))) }
 {
     let answer = resolution::charted(levels, table);
-    let chart = answer.chart;
-    let refused = answer.refused;
-    *figures = [chart.word, chart.next, chart.ratio];
-    *places = [refused.first, refused.second];
-    refused.number
+    *figures = figures_of(answer);
+    told(&answer, places)
 }
 
 // A column's figure: whether it has a ratio, and the ratio.
@@ -153,21 +137,19 @@ pub fn asked_figure(
     places: &mut [usize; 2],
 ) -> u64
     ensures refused { let p = plan levels.now table.now in
-        result ≡ (figure_answer p (every_run p) (of_plan p) column).refused.number }
+        result ≡ (refusal_in (figure_answer p (every_run p) (of_plan p) column)).number }
     ensures case { let p = plan levels.now table.now in
-        case.new ≡ case_of (figure_answer p (every_run p) (of_plan p) column).figure }
+        case.new ≡ case_of (result_unwrap_or (figure_answer p (every_run p) (of_plan p) column) None) }
     ensures ratio { let p = plan levels.now table.now in
-        ratio.new ≡ ratio_in (figure_answer p (every_run p) (of_plan p) column).figure }
+        ratio.new ≡ ratio_in (result_unwrap_or (figure_answer p (every_run p) (of_plan p) column) None) }
     ensures places { let p = plan levels.now table.now in
-        places.new ≡ places_of (figure_answer p (every_run p) (of_plan p) column).refused }
+        places.new ≡ places_of (refusal_in (figure_answer p (every_run p) (of_plan p) column)) }
 {
     let answer = resolution::column_figure(levels, table, column);
-    let figure = answer.figure;
-    let refused = answer.refused;
+    let figure = answer.unwrap_or(None);
     *case = case_of(figure);
     *ratio = ratio_in(figure);
-    *places = [refused.first, refused.second];
-    refused.number
+    told(&answer, places)
 }
 
 // Two plans compared: the case, and of a refusal the plan, the number and the places.
@@ -181,25 +163,21 @@ pub fn asked_comparison(
     ensures { numbers.new ≡
         numbers_of (compare_plans (plan levels1.now table1.now) (plan levels2.now table2.now)) }
 {
-    let answer = compare::compare(levels1, table1, levels2, table2);
-    let told = numbers_of(answer);
-    *numbers = told;
+    *numbers = numbers_of(compare::compare(levels1, table1, levels2, table2));
 }
 
 // The run advised for loss.
 pub fn asked_advice(levels: &[u8], table: &[u8], run: &mut usize, places: &mut [usize; 2]) -> u64
     ensures refused { let p = plan levels.now table.now in
-        result ≡ (advice_answer p (every_run p) (of_plan p)).refused.number }
+        result ≡ (refusal_in (advice_answer p (every_run p) (of_plan p))).number }
     ensures run { let p = plan levels.now table.now in
-        run.new ≡ (advice_answer p (every_run p) (of_plan p)).run }
+        run.new ≡ result_unwrap_or (advice_answer p (every_run p) (of_plan p)) 0 }
     ensures places { let p = plan levels.now table.now in
-        places.new ≡ places_of (advice_answer p (every_run p) (of_plan p)).refused }
+        places.new ≡ places_of (refusal_in (advice_answer p (every_run p) (of_plan p))) }
 {
     let answer = advice::advice(levels, table);
-    let refused = answer.refused;
-    *run = answer.run;
-    *places = [refused.first, refused.second];
-    refused.number
+    *run = answer.unwrap_or(0);
+    told(&answer, places)
 }
 
 // The best k to lose, in turn.
@@ -211,18 +189,15 @@ pub fn asked_in_turn(
     places: &mut [usize; 2],
 ) -> u64
     ensures refused { let p = plan levels.now table.now in
-        result ≡ (turns_answer p (every_run p) (of_plan p) k).refused.number }
+        result ≡ (refusal_in (turns_answer p (every_run p) (of_plan p) k)).number }
     ensures runs { let p = plan levels.now table.now in
-        runs.new ≡ (turns_answer p (every_run p) (of_plan p) k).runs }
+        runs.new ≡ filled_to 3 0 (result_unwrap_or (turns_answer p (every_run p) (of_plan p) k) []) }
     ensures places { let p = plan levels.now table.now in
-        places.new ≡ places_of (turns_answer p (every_run p) (of_plan p) k).refused }
+        places.new ≡ places_of (refusal_in (turns_answer p (every_run p) (of_plan p) k)) }
 {
     let answer = advice::in_turn(levels, table, k);
-    let numbers = answer.runs;
-    let refused = answer.refused;
-    *runs = numbers;
-    *places = [refused.first, refused.second];
-    refused.number
+    *runs = in_row(&answer);
+    told(&answer, places)
 }
 
 // The place of a set of f of m columns.
@@ -233,15 +208,13 @@ pub fn asked_place(
     place: &mut usize,
     places: &mut [usize; 2],
 ) -> u64
-    ensures refused { result ≡ (place_answer m f columns.now).refused.number }
-    ensures place { place.new ≡ (place_answer m f columns.now).place }
-    ensures places { places.new ≡ places_of (place_answer m f columns.now).refused }
+    ensures refused { result ≡ (refusal_in (place_answer m f columns.now)).number }
+    ensures place { place.new ≡ result_unwrap_or (place_answer m f columns.now) 0 }
+    ensures places { places.new ≡ places_of (refusal_in (place_answer m f columns.now)) }
 {
     let answer = sets::place(m, f, columns);
-    let refused = answer.refused;
-    *place = answer.place;
-    *places = [refused.first, refused.second];
-    refused.number
+    *place = answer.unwrap_or(0);
+    told(&answer, places)
 }
 
 // The set of f of m columns at a place.
@@ -252,14 +225,11 @@ pub fn asked_set_at(
     columns: &mut [usize; 4],
     places: &mut [usize; 2],
 ) -> u64
-    ensures refused { result ≡ (set_answer m f place).refused.number }
-    ensures columns { columns.new ≡ (set_answer m f place).columns }
-    ensures places { places.new ≡ places_of (set_answer m f place).refused }
+    ensures refused { result ≡ (refusal_in (set_answer m f place)).number }
+    ensures columns { columns.new ≡ filled_to 4 0 (result_unwrap_or (set_answer m f place) []) }
+    ensures places { places.new ≡ places_of (refusal_in (set_answer m f place)) }
 {
     let answer = sets::set_at(m, f, place);
-    let numbers = answer.columns;
-    let refused = answer.refused;
-    *columns = numbers;
-    *places = [refused.first, refused.second];
-    refused.number
+    *columns = in_row(&answer);
+    told(&answer, places)
 }

@@ -1,10 +1,12 @@
 // For the tests: the calls of `asked` as C functions (tests/asked.h), each with the same contract.
 #![tactic(auto)]
 
-ghost use Rattle.std.specs.Prelude.{◌≡◌, []};
+ghost use Rattle.std.specs.Prelude.{◌≡◌, [], None};
+ghost use Rattle.std.specs.Result.{result_unwrap_or};
+ghost use Rattle.exact.specs.Lists.{filled_to};
 ghost use Rattle.rules.specs.Plan.{plan, every_run};
-ghost use Rattle.rules.specs.Refusals.{of_plan};
-ghost use Rattle.words.specs.Answers.{words_answer, row_sums_answer, diagonal_answer};
+ghost use Rattle.rules.specs.Refusals.{of_plan, refusal_in};
+ghost use Rattle.words.specs.Answers.{zeros, words_answer, row_sums_answer, diagonal_answer};
 ghost use Rattle.counts.specs.Counts.{strength_answer};
 ghost use Rattle.resolution.specs.Resolution.{resolution_answer};
 ghost use Rattle.resolution.specs.Charts.{chart_answer, figure_answer};
@@ -22,11 +24,11 @@ pub extern "C" fn asked_words(
     places: &mut [usize; 2],
 ) -> u64
     ensures refused { let p = plan levels.now table.now in
-        result ≡ (words_answer p (every_run p) (of_plan p)).refused.number }
+        result ≡ (refusal_in (words_answer p (every_run p) (of_plan p))).number }
     ensures words { let p = plan levels.now table.now in
-        words.new ≡ (words_answer p (every_run p) (of_plan p)).words }
+        words.new ≡ result_unwrap_or (words_answer p (every_run p) (of_plan p)) zeros }
     ensures places { let p = plan levels.now table.now in
-        places.new ≡ places_of (words_answer p (every_run p) (of_plan p)).refused }
+        places.new ≡ places_of (refusal_in (words_answer p (every_run p) (of_plan p))) }
 {
     asked::asked_words(levels, table, words, places)
 }
@@ -41,11 +43,11 @@ pub extern "C" fn asked_row_sums(
     places: &mut [usize; 2],
 ) -> u64
     ensures refused { let p = plan levels.now table.now in
-        result ≡ (row_sums_answer p (every_run p) (of_plan p)).refused.number }
+        result ≡ (refusal_in (row_sums_answer p (every_run p) (of_plan p))).number }
     ensures sums { let p = plan levels.now table.now in
         sums.new ≡ row_at (row_sums_answer p (every_run p) (of_plan p)) run }
     ensures places { let p = plan levels.now table.now in
-        places.new ≡ places_of (row_sums_answer p (every_run p) (of_plan p)).refused }
+        places.new ≡ places_of (refusal_in (row_sums_answer p (every_run p) (of_plan p))) }
 {
     asked::asked_row_sums(levels, table, run, sums, places)
 }
@@ -57,9 +59,9 @@ pub extern "C" fn asked_diagonal(
     sums: &mut [i64; 24],
     places: &mut [usize; 2],
 ) -> u64
-    ensures refused { result ≡ (diagonal_answer (plan levels.now [])).refused.number }
-    ensures sums { sums.new ≡ (diagonal_answer (plan levels.now [])).sums }
-    ensures places { places.new ≡ places_of (diagonal_answer (plan levels.now [])).refused }
+    ensures refused { result ≡ (refusal_in (diagonal_answer (plan levels.now []))).number }
+    ensures sums { sums.new ≡ result_unwrap_or (diagonal_answer (plan levels.now [])) zeros }
+    ensures places { places.new ≡ places_of (refusal_in (diagonal_answer (plan levels.now []))) }
 {
     asked::asked_diagonal(levels, sums, places)
 }
@@ -73,11 +75,11 @@ pub extern "C" fn asked_strength(
     places: &mut [usize; 2],
 ) -> u64
     ensures refused { let p = plan levels.now table.now in
-        result ≡ (strength_answer p (every_run p) (of_plan p)).refused.number }
+        result ≡ (refusal_in (strength_answer p (every_run p) (of_plan p))).number }
     ensures strength { let p = plan levels.now table.now in
-        strength.new ≡ (strength_answer p (every_run p) (of_plan p)).strength }
+        strength.new ≡ result_unwrap_or (strength_answer p (every_run p) (of_plan p)) 0 }
     ensures places { let p = plan levels.now table.now in
-        places.new ≡ places_of (strength_answer p (every_run p) (of_plan p)).refused }
+        places.new ≡ places_of (refusal_in (strength_answer p (every_run p) (of_plan p))) }
 {
     asked::asked_strength(levels, table, strength, places)
 }
@@ -91,11 +93,11 @@ pub extern "C" fn asked_resolution(
     places: &mut [usize; 2],
 ) -> u64
     ensures refused { let p = plan levels.now table.now in
-        result ≡ (resolution_answer p (every_run p) (of_plan p)).refused.number }
+        result ≡ (refusal_in (resolution_answer p (every_run p) (of_plan p))).number }
     ensures resolution { let p = plan levels.now table.now in
-        resolution.new ≡ (resolution_answer p (every_run p) (of_plan p)).resolution }
+        resolution.new ≡ result_unwrap_or (resolution_answer p (every_run p) (of_plan p)) 0 }
     ensures places { let p = plan levels.now table.now in
-        places.new ≡ places_of (resolution_answer p (every_run p) (of_plan p)).refused }
+        places.new ≡ places_of (refusal_in (resolution_answer p (every_run p) (of_plan p))) }
 {
     asked::asked_resolution(levels, table, resolution, places)
 }
@@ -109,11 +111,11 @@ pub extern "C" fn asked_chart(
     places: &mut [usize; 2],
 ) -> u64
     ensures refused { let p = plan levels.now table.now in
-        result ≡ (chart_answer p (every_run p) (of_plan p)).refused.number }
+        result ≡ (refusal_in (chart_answer p (every_run p) (of_plan p))).number }
     ensures figures { let p = plan levels.now table.now in
-        figures.new ≡ figures_of (chart_answer p (every_run p) (of_plan p)).chart }
+        figures.new ≡ figures_of (chart_answer p (every_run p) (of_plan p)) }
     ensures places { let p = plan levels.now table.now in
-        places.new ≡ places_of (chart_answer p (every_run p) (of_plan p)).refused }
+        places.new ≡ places_of (refusal_in (chart_answer p (every_run p) (of_plan p))) }
 {
     asked::asked_chart(levels, table, figures, places)
 }
@@ -129,13 +131,13 @@ pub extern "C" fn asked_figure(
     places: &mut [usize; 2],
 ) -> u64
     ensures refused { let p = plan levels.now table.now in
-        result ≡ (figure_answer p (every_run p) (of_plan p) column).refused.number }
+        result ≡ (refusal_in (figure_answer p (every_run p) (of_plan p) column)).number }
     ensures case { let p = plan levels.now table.now in
-        case.new ≡ case_of (figure_answer p (every_run p) (of_plan p) column).figure }
+        case.new ≡ case_of (result_unwrap_or (figure_answer p (every_run p) (of_plan p) column) None) }
     ensures ratio { let p = plan levels.now table.now in
-        ratio.new ≡ ratio_in (figure_answer p (every_run p) (of_plan p) column).figure }
+        ratio.new ≡ ratio_in (result_unwrap_or (figure_answer p (every_run p) (of_plan p) column) None) }
     ensures places { let p = plan levels.now table.now in
-        places.new ≡ places_of (figure_answer p (every_run p) (of_plan p) column).refused }
+        places.new ≡ places_of (refusal_in (figure_answer p (every_run p) (of_plan p) column)) }
 {
     asked::asked_figure(levels, table, column, case, ratio, places)
 }
@@ -164,11 +166,11 @@ pub extern "C" fn asked_advice(
     places: &mut [usize; 2],
 ) -> u64
     ensures refused { let p = plan levels.now table.now in
-        result ≡ (advice_answer p (every_run p) (of_plan p)).refused.number }
+        result ≡ (refusal_in (advice_answer p (every_run p) (of_plan p))).number }
     ensures run { let p = plan levels.now table.now in
-        run.new ≡ (advice_answer p (every_run p) (of_plan p)).run }
+        run.new ≡ result_unwrap_or (advice_answer p (every_run p) (of_plan p)) 0 }
     ensures places { let p = plan levels.now table.now in
-        places.new ≡ places_of (advice_answer p (every_run p) (of_plan p)).refused }
+        places.new ≡ places_of (refusal_in (advice_answer p (every_run p) (of_plan p))) }
 {
     asked::asked_advice(levels, table, run, places)
 }
@@ -183,11 +185,11 @@ pub extern "C" fn asked_in_turn(
     places: &mut [usize; 2],
 ) -> u64
     ensures refused { let p = plan levels.now table.now in
-        result ≡ (turns_answer p (every_run p) (of_plan p) k).refused.number }
+        result ≡ (refusal_in (turns_answer p (every_run p) (of_plan p) k)).number }
     ensures runs { let p = plan levels.now table.now in
-        runs.new ≡ (turns_answer p (every_run p) (of_plan p) k).runs }
+        runs.new ≡ filled_to 3 0 (result_unwrap_or (turns_answer p (every_run p) (of_plan p) k) []) }
     ensures places { let p = plan levels.now table.now in
-        places.new ≡ places_of (turns_answer p (every_run p) (of_plan p) k).refused }
+        places.new ≡ places_of (refusal_in (turns_answer p (every_run p) (of_plan p) k)) }
 {
     asked::asked_in_turn(levels, table, k, runs, places)
 }
@@ -201,9 +203,9 @@ pub extern "C" fn asked_place(
     place: &mut usize,
     places: &mut [usize; 2],
 ) -> u64
-    ensures refused { result ≡ (place_answer m f columns.now).refused.number }
-    ensures place { place.new ≡ (place_answer m f columns.now).place }
-    ensures places { places.new ≡ places_of (place_answer m f columns.now).refused }
+    ensures refused { result ≡ (refusal_in (place_answer m f columns.now)).number }
+    ensures place { place.new ≡ result_unwrap_or (place_answer m f columns.now) 0 }
+    ensures places { places.new ≡ places_of (refusal_in (place_answer m f columns.now)) }
 {
     asked::asked_place(m, f, columns, place, places)
 }
@@ -217,9 +219,9 @@ pub extern "C" fn asked_set_at(
     columns: &mut [usize; 4],
     places: &mut [usize; 2],
 ) -> u64
-    ensures refused { result ≡ (set_answer m f place).refused.number }
-    ensures columns { columns.new ≡ (set_answer m f place).columns }
-    ensures places { places.new ≡ places_of (set_answer m f place).refused }
+    ensures refused { result ≡ (refusal_in (set_answer m f place)).number }
+    ensures columns { columns.new ≡ filled_to 4 0 (result_unwrap_or (set_answer m f place) []) }
+    ensures places { places.new ≡ places_of (refusal_in (set_answer m f place)) }
 {
     asked::asked_set_at(m, f, place, columns, places)
 }

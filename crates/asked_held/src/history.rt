@@ -4,10 +4,10 @@ ghost use Rattle.rules.specs.Plan.{plan};
 ghost use Rattle.held.specs.Held.{IsHeld, call_answer};
 ghost use Rattle.asked_held.specs.Histories.{call_of, led};
 
-use held::{Held, HeldAnswer};
+use held::{Answered, Held};
 
 // An even number strikes the run of half that number, and the odd number behind it reinstates that run.
-pub fn called(held: Held, call: u64) -> HeldAnswer
+pub fn called(held: Held, call: u64) -> Answered<()>
     requires { IsHeld held }
     ensures { result ≡ call_answer held (call_of call) }
 {
@@ -22,12 +22,9 @@ pub fn called(held: Held, call: u64) -> HeldAnswer
 pub fn led(levels: &[u8], table: &[u8], history: &[u64]) -> Held
     ensures { result ≡ led (plan levels.now table.now) history.now }
 {
-    let opened = held::calls::open(levels, table);
-    let mut left = opened.held;
-    for k in 0..history.len() {
-        let answer = called(left, history[k]);
-        let next = answer.held;
-        left = next;
+    let mut left = held::calls::open(levels, table).held;
+    for call in history {
+        left = called(left, *call).held;
     }
     left
 }

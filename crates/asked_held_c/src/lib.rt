@@ -1,8 +1,12 @@
 // For the tests: the calls of `asked_held` as C functions, each with the same contract.
 #![tactic(auto)]
 
-ghost use Rattle.std.specs.Prelude.{◌≡◌};
+ghost use Rattle.std.specs.Prelude.{◌≡◌, [], pos};
+ghost use Rattle.std.specs.Result.{result_unwrap_or};
+ghost use Rattle.exact.specs.Lists.{filled_to};
 ghost use Rattle.rules.specs.Plan.{plan};
+ghost use Rattle.rules.specs.Refusals.{refusal_in};
+ghost use Rattle.words.specs.Answers.{zeros};
 ghost use Rattle.held.specs.Held.{call_answer};
 ghost use Rattle.held_questions.specs.Answers.{held_words, held_word, held_row_sums, held_strength, held_comparison, held_advice, held_turns};
 ghost use Rattle.asked.specs.Asked.{row_at, numbers_of};
@@ -17,9 +21,9 @@ pub extern "C" fn asked_held_words(
     words: &mut [i64; 24],
 ) -> u64
     ensures refused { let h = led (plan levels.now table.now) history.now in
-        result ≡ (held_words h).answer.refused.number }
+        result ≡ (refusal_in (held_words h).answer).number }
     ensures words { let h = led (plan levels.now table.now) history.now in
-        words.new ≡ (held_words h).answer.words }
+        words.new ≡ result_unwrap_or (held_words h).answer zeros }
 {
     asked_held::asked_held_words(levels, table, history, words)
 }
@@ -34,9 +38,9 @@ pub extern "C" fn asked_held_word(
     word: &mut i64,
 ) -> u64
     ensures refused { let h = led (plan levels.now table.now) history.now in
-        result ≡ (held_word h length).answer.refused.number }
+        result ≡ (refusal_in (held_word h length).answer).number }
     ensures word { let h = led (plan levels.now table.now) history.now in
-        word.new ≡ (held_word h length).answer.word }
+        word.new ≡ result_unwrap_or (held_word h length).answer (pos 0) }
 {
     asked_held::asked_held_word(levels, table, history, length, word)
 }
@@ -51,7 +55,7 @@ pub extern "C" fn asked_held_row_sums(
     sums: &mut [i64; 24],
 ) -> u64
     ensures refused { let h = led (plan levels.now table.now) history.now in
-        result ≡ (held_row_sums h).answer.refused.number }
+        result ≡ (refusal_in (held_row_sums h).answer).number }
     ensures sums { let h = led (plan levels.now table.now) history.now in
         sums.new ≡ row_at (held_row_sums h).answer run }
 {
@@ -67,9 +71,9 @@ pub extern "C" fn asked_held_strength(
     strength: &mut usize,
 ) -> u64
     ensures refused { let h = led (plan levels.now table.now) history.now in
-        result ≡ (held_strength h).answer.refused.number }
+        result ≡ (refusal_in (held_strength h).answer).number }
     ensures strength { let h = led (plan levels.now table.now) history.now in
-        strength.new ≡ (held_strength h).answer.strength }
+        strength.new ≡ result_unwrap_or (held_strength h).answer 0 }
 {
     asked_held::asked_held_strength(levels, table, history, strength)
 }
@@ -83,9 +87,9 @@ pub extern "C" fn asked_held_advice(
     run: &mut usize,
 ) -> u64
     ensures refused { let h = led (plan levels.now table.now) history.now in
-        result ≡ (held_advice h).answer.refused.number }
+        result ≡ (refusal_in (held_advice h).answer).number }
     ensures run { let h = led (plan levels.now table.now) history.now in
-        run.new ≡ (held_advice h).answer.run }
+        run.new ≡ result_unwrap_or (held_advice h).answer 0 }
 {
     asked_held::asked_held_advice(levels, table, history, run)
 }
@@ -100,9 +104,9 @@ pub extern "C" fn asked_held_in_turn(
     runs: &mut [usize; 3],
 ) -> u64
     ensures refused { let h = led (plan levels.now table.now) history.now in
-        result ≡ (held_turns h k).answer.refused.number }
+        result ≡ (refusal_in (held_turns h k).answer).number }
     ensures runs { let h = led (plan levels.now table.now) history.now in
-        runs.new ≡ (held_turns h k).answer.runs }
+        runs.new ≡ filled_to 3 0 (result_unwrap_or (held_turns h k).answer []) }
 {
     asked_held::asked_held_in_turn(levels, table, history, k, runs)
 }
@@ -131,7 +135,7 @@ pub extern "C" fn asked_held_comparison(
 #[unsafe(no_mangle)]
 pub extern "C" fn asked_held_call(levels: &[u8], table: &[u8], history: &[u64], call: u64) -> u64
     ensures { let h = led (plan levels.now table.now) history.now in
-        result ≡ (call_answer h (call_of call)).refused.number }
+        result ≡ (refusal_in (call_answer h (call_of call)).answer).number }
 {
     asked_held::asked_held_call(levels, table, history, call)
 }

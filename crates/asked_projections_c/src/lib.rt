@@ -1,8 +1,10 @@
 // For the tests: the calls of `asked_projections` as C functions, each with the same contract.
 #![tactic(auto)]
 
-ghost use Rattle.std.specs.Prelude.{◌≡◌, true, false};
+ghost use Rattle.std.specs.Prelude.{◌≡◌, true, false, pos, None};
+ghost use Rattle.std.specs.Result.{result_unwrap_or};
 ghost use Rattle.rules.specs.Plan.{plan};
+ghost use Rattle.rules.specs.Refusals.{refusal_in};
 ghost use Rattle.projection_tables.specs.Tables.{rooms};
 ghost use Rattle.held_questions.specs.Answers.{held_set_word, held_table, held_rooms, held_resolution, held_generalized, held_chart, held_figure};
 ghost use Rattle.asked.specs.Asked.{figures_of, case_of, ratio_in};
@@ -20,9 +22,9 @@ pub extern "C" fn asked_held_set_word(
     word: &mut i64,
 ) -> u64
     ensures refused { let h = led (plan levels.now table.now) history.now in
-        result ≡ (held_set_word h f columns.now).answer.refused.number }
+        result ≡ (refusal_in (held_set_word h f columns.now).answer).number }
     ensures word { let h = led (plan levels.now table.now) history.now in
-        word.new ≡ (held_set_word h f columns.now).answer.word }
+        word.new ≡ result_unwrap_or (held_set_word h f columns.now).answer (pos 0) }
 {
     asked_projections::asked_held_set_word(levels, table, history, f, columns, word)
 }
@@ -40,9 +42,9 @@ pub extern "C" fn asked_held_absolute(
     lines: &mut usize,
 ) -> u64
     ensures refused { let h = led (plan levels.now table.now) history.now in
-        result ≡ (held_table h false f (rooms nums.old dens.old counts.old)).answer.refused.number }
+        result ≡ (refusal_in (held_table h false f (rooms nums.old dens.old counts.old)).answer).number }
     ensures lines { let h = led (plan levels.now table.now) history.now in
-        lines.new ≡ (held_table h false f (rooms nums.old dens.old counts.old)).answer.lines }
+        lines.new ≡ result_unwrap_or (held_table h false f (rooms nums.old dens.old counts.old)).answer 0 }
     ensures rooms { let h = led (plan levels.now table.now) history.now in
         rooms nums.new dens.new counts.new ≡
         held_rooms h false f (rooms nums.old dens.old counts.old) }
@@ -63,9 +65,9 @@ pub extern "C" fn asked_held_relative(
     lines: &mut usize,
 ) -> u64
     ensures refused { let h = led (plan levels.now table.now) history.now in
-        result ≡ (held_table h true f (rooms nums.old dens.old counts.old)).answer.refused.number }
+        result ≡ (refusal_in (held_table h true f (rooms nums.old dens.old counts.old)).answer).number }
     ensures lines { let h = led (plan levels.now table.now) history.now in
-        lines.new ≡ (held_table h true f (rooms nums.old dens.old counts.old)).answer.lines }
+        lines.new ≡ result_unwrap_or (held_table h true f (rooms nums.old dens.old counts.old)).answer 0 }
     ensures rooms { let h = led (plan levels.now table.now) history.now in
         rooms nums.new dens.new counts.new ≡
         held_rooms h true f (rooms nums.old dens.old counts.old) }
@@ -82,9 +84,9 @@ pub extern "C" fn asked_held_resolution(
     resolution: &mut usize,
 ) -> u64
     ensures refused { let h = led (plan levels.now table.now) history.now in
-        result ≡ (held_resolution h).answer.refused.number }
+        result ≡ (refusal_in (held_resolution h).answer).number }
     ensures resolution { let h = led (plan levels.now table.now) history.now in
-        resolution.new ≡ (held_resolution h).answer.resolution }
+        resolution.new ≡ result_unwrap_or (held_resolution h).answer 0 }
 {
     asked_projections::asked_held_resolution(levels, table, history, resolution)
 }
@@ -98,7 +100,7 @@ pub extern "C" fn asked_held_generalized(
     numbers: &mut [u64; 4],
 ) -> u64
     ensures refused { let h = led (plan levels.now table.now) history.now in
-        result ≡ (held_generalized h).answer.refused.number }
+        result ≡ (refusal_in (held_generalized h).answer).number }
     ensures numbers { let h = led (plan levels.now table.now) history.now in
         numbers.new ≡ generalized_numbers (held_generalized h).answer }
 {
@@ -114,9 +116,9 @@ pub extern "C" fn asked_held_chart(
     figures: &mut [f64; 3],
 ) -> u64
     ensures refused { let h = led (plan levels.now table.now) history.now in
-        result ≡ (held_chart h).answer.refused.number }
+        result ≡ (refusal_in (held_chart h).answer).number }
     ensures figures { let h = led (plan levels.now table.now) history.now in
-        figures.new ≡ figures_of (held_chart h).answer.chart }
+        figures.new ≡ figures_of (held_chart h).answer }
 {
     asked_projections::asked_held_chart(levels, table, history, figures)
 }
@@ -132,11 +134,11 @@ pub extern "C" fn asked_held_figure(
     ratio: &mut f64,
 ) -> u64
     ensures refused { let h = led (plan levels.now table.now) history.now in
-        result ≡ (held_figure h column).answer.refused.number }
+        result ≡ (refusal_in (held_figure h column).answer).number }
     ensures case { let h = led (plan levels.now table.now) history.now in
-        case.new ≡ case_of (held_figure h column).answer.figure }
+        case.new ≡ case_of (result_unwrap_or (held_figure h column).answer None) }
     ensures ratio { let h = led (plan levels.now table.now) history.now in
-        ratio.new ≡ ratio_in (held_figure h column).answer.figure }
+        ratio.new ≡ ratio_in (result_unwrap_or (held_figure h column).answer None) }
 {
     asked_projections::asked_held_figure(levels, table, history, column, case, ratio)
 }

@@ -1,5 +1,6 @@
 -- The words of the sets of f columns, set after set: how large their sum is, and that of all is the word of length f.
-use Rattle.exact.proofs.Ground.{List, [], ◌∷◌, ◌≡◌, ◌∙◌, sym, ap, ℕ, ◌≤◌, ◌<◌, ◌+◌, ◌*◌, zero-add, le_trans, arith, ℤ, nat_abs, ◌+ℤ◌, +ℤ_idr, length}
+use Rattle.exact.proofs.Ground.{List, [], ◌∷◌, ◌≡◌, ◌∙◌, sym, ap, ap₂, ℕ, ◌≤◌, ◌<◌, ◌+◌, ◌*◌, zero-add}
+use Rattle.exact.proofs.Ground.{le_trans, arith, ℤ, nat_abs, ◌+ℤ◌, +ℤ_idr, length}
 use Rattle.exact.specs.Lists.{from, sum}
 use Rattle.exact.proofs.Numbers.{length_from, mem-from, from-snoc, mul-below}
 use Rattle.exact.proofs.Sums.{sum-++, sum-map}
@@ -31,10 +32,14 @@ module _ (p : Plan) (rs : List ℕ) (f : ℕ) (S : Sound p rs) (z : SizeOf (colu
   pub place-few : (k : ℕ) → k < binom (columns p) f → length (set_at (columns p) f k) ≤ 4
   place-few k h = omega (arith, (set-at-set (columns p) f k h).1, z.high)
 
-  pub added_next : (k : ℕ) → added k +ℤ set_word k ≡ added (k + 1)
+  added_next : (k : ℕ) → added k +ℤ set_word k ≡ added (k + 1)
   added_next k =
       sym (ap (λ l. sum l set_word) (from-snoc 0 k) ∙ sum-++ (from 0 k) ((0 + k) ∷ []) set_word
       ∙ ap (λ z. added k +ℤ z) (+ℤ_idr (set_word (0 + k)) ∙ ap set_word (zero-add k)))
+
+  -- the words so far and the next one
+  pub added-next : (k : ℕ) {x y : ℤ} → x ≡ added k → y ≡ set_word k → x +ℤ y ≡ added (k + 1)
+  added-next k e f = ap₂ (λ x y. x +ℤ y) e f ∙ added_next k
 
   pub added-small : (k : ℕ) → k ≤ binom (columns p) f → nat_abs (added k) ≤ 10_626 * (most_runs * (most_runs * highest_product))
   added-small k h =

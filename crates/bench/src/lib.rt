@@ -11,10 +11,20 @@ ghost use Rattle.parts.specs.Parts.{counted};
 ghost use Rattle.set_words.specs.Given.{Projection, SizeOf};
 ghost use Rattle.projection_tables.specs.Tables.{rooms, table_rooms};
 ghost use Rattle.held.specs.Held.{IsHeld};
-ghost use Rattle.bench.specs.Exports.{rounds, strikes_number, table_number, ratio_number, set_word_number, set_words_number};
+ghost use Rattle.bench.specs.Exports.{
+  rounds,
+  strikes_number,
+  table_number,
+  ratio_number,
+  set_word_number,
+  set_words_answer,
+  set_words_number,
+};
 
+use exact::listed::Numbers;
 use exact::signed;
 use held::Held;
+use rules::{Refusal, number_or};
 use set_words::Engine;
 use set_words::routines::word_by_pairs;
 use sets::routines::{binomial, check_size, set_at};
@@ -26,11 +36,8 @@ fn rounds(held: Held, times: u64) -> Held
 {
     let mut turned = held;
     for _ in 0..times {
-        let struck = held::calls::strike(turned, 0);
-        let without = struck.held;
-        let reinstated = held::calls::reinstate(without, 0);
-        let whole = reinstated.held;
-        turned = whole;
+        let without = held::calls::strike(turned, 0).held;
+        turned = held::calls::reinstate(without, 0).held;
     }
     turned
 }
@@ -40,14 +47,9 @@ pub fn bench_strikes(levels: &[u8], table: &[u8], length: u64, times: u64) -> i6
     ensures { result ≡ strikes_number (plan levels.now table.now) length times }
 {
     let opened = held::calls::open(levels, table);
-    let held = opened.held;
-    let struck = held::calls::strike(rounds(held, times), 0);
-    let left = struck.held;
+    let left = held::calls::strike(rounds(opened.held, times), 0).held;
     let asked = held_questions::questions::word(left, length as usize);
-    let answer = asked.answer;
-    opened
-        .refused
-        .number_or(answer.refused.number_or(answer.word))
+    number_or(opened.answer.and(asked.answer))
 }
 
 // The table for size f, put into the lent rooms: the number of its lines.
@@ -71,15 +73,20 @@ pub fn bench_table(
     let answer = projection_tables::frequencies(
         levels, table, f as usize, relative, nums, dens, counts,
     );
-    answer.refused.number_or(signed::of_size(answer.lines))
+    match answer {
+        Ok(lines) => signed::of_size(lines),
+        Err(refused) => number_or(Err(refused)),
+    }
 }
 
 // Generalized resolution in thousandths.
 pub fn bench_ratio(levels: &[u8], table: &[u8]) -> i64
     ensures { result ≡ ratio_number (plan levels.now table.now) }
 {
-    let answer = resolution::generalized(levels, table);
-    answer.refused.number_or(signed::of_u64(answer.thousandths))
+    match resolution::generalized(levels, table) {
+        Ok(found) => signed::of_u64(found.thousandths),
+        Err(refused) => number_or(Err(refused)),
+    }
 }
 
 // W(I) of a set of f columns, by the engine that is named.
@@ -91,8 +98,7 @@ pub fn bench_set_word(levels: &[u8], table: &[u8], f: u64, columns: &[usize], by
     } else {
         Engine::Counts
     };
-    let answer = set_words::set_word_by(levels, table, f as usize, columns, engine);
-    answer.refused.number_or(answer.word)
+    number_or(set_words::set_word_by(levels, table, f as usize, columns, engine))
 }
 
 // W(I) of the runs, by the engine that is named.
@@ -127,24 +133,25 @@ fn words_added(levels: &[u8], table: &[u8], runs: &[usize], f: usize, by_pairs: 
     let mut counters = [0u16; 65536];
     let mut total: i64 = 0;
     for k in 0..binomial(m, f) {
-        let set = set_at(m, f, k);
-        let word = word_by(levels, table, runs, &set[..f], by_pairs, &mut counters);
+        let set: Numbers<4> = set_at(m, f, k);
+        let word = word_by(levels, table, runs, set.as_slice(), by_pairs, &mut counters);
         total = signed::add(total, word);
     }
     total
+}
+
+// The same of all runs of a plan.
+fn words_of_sets(levels: &[u8], table: &[u8], f: usize, by_pairs: bool) -> Result<i64, Refusal>
+    ensures { result ≡ set_words_answer (plan levels.now table.now) f }
+{
+    let runs = plan::routines::checked_runs(levels, table)?;
+    check_size(levels.len(), f)?;
+    Ok(words_added(levels, table, runs.as_slice(), f, by_pairs))
 }
 
 // W(I) of every set of f columns, by the engine that is named, added up.
 pub fn bench_set_words(levels: &[u8], table: &[u8], f: u64, by_pairs: bool) -> i64
     ensures { result ≡ set_words_number (plan levels.now table.now) f }
 {
-    let size = f as usize;
-    let checked = plan::routines::checked_runs(levels, table);
-    let refused = checked.refused.or_else(check_size(levels.len(), size));
-    if refused.number != 0 {
-        return refused.number_or(0);
-    }
-    let runs = checked.runs;
-    let count = checked.count;
-    words_added(levels, table, &runs[..count], size, by_pairs)
+    number_or(words_of_sets(levels, table, f as usize, by_pairs))
 }

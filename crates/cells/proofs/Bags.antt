@@ -1,5 +1,5 @@
 -- The elementary symmetric sums of some numbers depend only on how often each number occurs: they are sums over a bag.
-use Rattle.exact.proofs.Ground.{true, false, Bool, cond, List, [], ◌∷◌, map, ◌++◌, ◌≡◌, ◌∙◌, sym, ap, refl, subst, ℕ, ◌<◌, ◌+◌, suc, zero, arith, eqb, T, pos}
+use Rattle.exact.proofs.Ground.{true, false, Bool, cond, List, [], ◌∷◌, map, ◌++◌, ◌≡◌, ◌∙◌, sym, ap, refl, subst, ℕ, ◌<◌, suc, zero, arith, eqb, T, pos}
 use Rattle.exact.proofs.Ground.{ℤ, negsuc, ◌*ℤ◌, ◌+ℤ◌}
 use borrow.Author.Tests.{eqb-true, eq-eqb}
 use Rattle.exact.specs.Lists.{count}
@@ -86,7 +86,8 @@ suc-cond false m n e = e
 module _ (f : ℤ → ℤ) where
   pub esp-bag : (xs ys : List ℤ) → SameBag xs ys → (j : ℕ) → esp j xs f ≡ esp j ys f
   esp-bag [] [] same j = refl
-  esp-bag [] (y ∷ ys) same j = absurd (let e : 0 ≡ suc (count (eq_z y) ys) = same y ∙ ap (λ b. cond b (suc (count (eq_z y) ys)) (count (eq_z y) ys)) (eq_z-self y) in omega arith)
+  esp-bag [] (y ∷ ys) same j = absurd (
+      let e : 0 ≡ suc (count (eq_z y) ys) = same y ∙ ap (λ b. cond b (suc (count (eq_z y) ys)) (count (eq_z y) ys)) (eq_z-self y) in omega arith)
   esp-bag (x ∷ xs) ys same j =
       let here : suc (count (eq_z x) xs) ≡ count (eq_z x) ys = ap (λ b. cond b (suc (count (eq_z x) xs)) (count (eq_z x) xs)) (sym (eq_z-self x)) ∙ same x in
       let s = split x ys (omega arith) in

@@ -1,8 +1,8 @@
 -- What a pair of runs adds to the words depends only on its cell, where that is below the window.
-use mathlib.Core.Path.{◌≡◌, refl, sym, ◌∙◌, ap}
+use mathlib.Core.Path.{◌≡◌, refl, sym, ◌∙◌}
 use mathlib.Core.Bool.{Bool, true, false, cond, ◌&&◌}
 use mathlib.Core.List.{List, [], ◌∷◌, map, Memᴰ}
-use Prim.Native.Nat.{ℕ, suc, ◌+◌, ◌*◌, ◌≤◌, ◌<◌}
+use Prim.Native.Nat.{ℕ, suc, ◌+◌, ◌≤◌, ◌<◌}
 use native.Mathlib.Decide.{dec_lt}
 use native.Mathlib.Omega.{arith}
 use lib.Dec.{eqb}
@@ -11,13 +11,13 @@ use Rattle.exact.specs.Lists.{count}
 use Rattle.exact.proofs.Numbers.{mem-from, map-from-cong}
 use Rattle.sets.proofs.Choose.{esp, esp-cong-in}
 use Rattle.rules.specs.Plan.{Plan, columns, level, entry, every_column, highest_level}
-use Rattle.pairs.specs.Words.{score, score_at, pair_sum}
+use Rattle.pairs.specs.Words.{score}
 use Rattle.pairs.specs.Lists.{pair_list}
 use Rattle.pairs.proofs.Laws.{pair-esp}
 use Rattle.pairs.proofs.OfPlan.{of_pair}
-use Rattle.cells.specs.Cells.{window, bit, sumℕ, members, stride, cell, agrees, cell_of, pair_row}
+use Rattle.cells.specs.Cells.{window, stride, cell, agrees, cell_of, pair_row}
 use Rattle.cells.proofs.Bags.{eq_z, esp-map, SameBag, esp-bag}
-use Rattle.cells.proofs.Radix.{part, digit, part-all, digit-none, digits}
+use Rattle.cells.proofs.Radix.{digit, part-all, digit-none, digits}
 
 -- a column's key: its level, and whether it agrees; the score is read off it
 abbrev key_of : Bool → ℕ → ℤ
@@ -56,7 +56,8 @@ module _ {C : Type 0} (level : C → ℕ) (t : ℕ → ℕ) (a : C → Bool) whe
   differing : (s : ℕ) (xs : List C) → count (eq_z (negsuc s)) (map key xs) + digit level t a s xs ≡ count (λ i. eqb s (level i)) xs
   differing s [] = refl
   differing s (x ∷ xs) =
-      rw (differs (a x) (level x)) (go (a x) (eqb s (level x)) (count (eq_z (negsuc s)) (map key xs)) (digit level t a s xs) (count (λ i. eqb s (level i)) xs) (differing s xs))
+      rw (differs (a x) (level x))
+      (go (a x) (eqb s (level x)) (count (eq_z (negsuc s)) (map key xs)) (digit level t a s xs) (count (λ i. eqb s (level i)) xs) (differing s xs))
     where
       differs : (b : Bool) (l : ℕ) → eq_z (negsuc s) (key_of b l) ≡ cond b false (eqb s l)
       differs true l = refl

@@ -1,19 +1,17 @@
 -- The cell is a number with a digit for each level, how many columns of that level agree: below the window it tells every digit.
 use mathlib.Core.Path.{◌≡◌, refl, sym, ◌∙◌, ap, ap₂}
 use mathlib.Core.Bool.{Bool, true, false, cond, ◌&&◌}
-use mathlib.Core.Logic.{◌⊎◌, inl, inr}
 use mathlib.Core.List.{List, [], ◌∷◌, ◌++◌, Memᴰ}
 use Prim.Native.Nat.{ℕ, zero, suc, ◌+◌, ◌*◌, ◌≤◌, ◌<◌, min}
-use native.Mathlib.Nat.{le_trans, mul-le-mul_right, mul-le-mul_left, suc-mul, mul-one, mul-zero, mul_comm, zero-add}
+use native.Mathlib.Nat.{mul-le-mul_right, suc-mul, mul-one, mul-zero, mul_comm, zero-add}
 use native.Mathlib.Decide.{dec_lt}
 use native.Mathlib.Omega.{arith}
 use borrow.Author.Tests.{eqb-true, eqb-false, eq-eqb, ne_eqb, lt-ltb, le-ltb, ltb-true, ltb-false}
 use lib.Dec.{eqb, ltb}
-use lib.ListN.{length}
 use Rattle.exact.specs.Lists.{from, count}
-use Rattle.exact.proofs.Lists.{count_none, count_most, count-snoc}
+use Rattle.exact.proofs.Lists.{count_none, count-snoc}
 use Rattle.exact.proofs.Numbers.{from-snoc}
-use Rattle.cells.specs.Cells.{window, bit, sumℕ, members, stride, cell}
+use Rattle.cells.specs.Cells.{window, bit, sumℕ, members, stride}
 
 -- ---- sums of natural numbers
 
@@ -96,7 +94,8 @@ module _ {C : Type 0} (level : C → ℕ) (t : ℕ → ℕ) (a : C → Bool) whe
   pub part-next : (k : ℕ) (xs : List C) → part (suc k) xs ≡ part k xs + digit k xs * t k
   part-next k [] = omega arith
   part-next k (x ∷ xs) =
-      rw (part-next k xs, column t (level x) k (a x)) (go (eqb k (level x) && a x) (cond (ltb (level x) k) (t (level x) * bit (a x)) 0) (part k xs) (digit k xs))
+      rw (part-next k xs, column t (level x) k (a x))
+      (go (eqb k (level x) && a x) (cond (ltb (level x) k) (t (level x) * bit (a x)) 0) (part k xs) (digit k xs))
     where
       go : (b : Bool) (u v d : ℕ) → u + cond b (t k) 0 + (v + d * t k) ≡ u + v + cond b (suc d) d * t k
       go true u v d = rw (suc-mul d (t k)) (omega arith)

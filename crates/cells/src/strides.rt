@@ -7,7 +7,7 @@ ghost use Rattle.cells.specs.Cells.{bit, window, members, stride, stride_of, Str
 pub(crate) fn same(a: u8, b: u8) -> u16
     ensures { result ≡ bit (eqb a b) }
 {
-    if a == b { 1 } else { 0 }
+    u16::from(a == b)
 }
 
 // How many columns have the level.
@@ -16,8 +16,8 @@ fn members_of(levels: &[u8], s: u8) -> u16
     ensures { let p = plan levels.now [] in result ≡ members (level p) (every_column p) s }
 {
     let mut k = 0;
-    for i in 0..levels.len() {
-        k += same(s, levels[i]);
+    for level in levels {
+        k += same(s, *level);
     }
     k
 }
@@ -27,8 +27,7 @@ fn next_stride(t: u16, members: u16) -> u16
     requires { (t ≤ window) × (members ≤ 24) }
     ensures { result ≡ min window (t * (members + 1)) }
 {
-    let next = t * (members + 1);
-    if next < 2560 { next } else { 2560 }
+    (t * (members + 1)).min(2560)
 }
 
 // The stride of the columns of a level.
@@ -56,7 +55,7 @@ fn stride_at(strides: &[u16; 24], levels: &[u8], i: usize) -> u16
     stride_of(levels, levels[i])
 }
 
-// The stride of each column.
+// The stride of each column. By an index, since each is made from the one before it.
 pub fn strides_of(levels: &[u8]) -> [u16; 24]
     requires { length levels.now ≤ 24 }
     ensures { Strides (plan levels.now []) result }
@@ -75,9 +74,8 @@ pub fn places_of(strides: &[u16; 24], levels: &[u8], lent: usize) -> usize
     ensures { result ≤ lent }
 {
     let mut all = 1;
-    for i in 0..levels.len() {
-        all += strides[i];
+    for stride in &strides[..levels.len()] {
+        all += *stride;
     }
-    let all = all as usize;
-    if all < lent { all } else { lent }
+    usize::from(all).min(lent)
 }

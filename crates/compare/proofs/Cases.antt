@@ -1,13 +1,12 @@
 -- Which case a comparison is: the first plan's refusal, then the second's, and else the verdict, which there is exactly where both have as
 -- many columns.
-use Rattle.exact.proofs.Ground.{true, false, Bool, cond, not, ◌||◌, List, [], none, ◌≡◌, refl, ℕ, eqb}
-use mathlib.Core.Option.{some}
+use Rattle.exact.proofs.Ground.{true, false, Bool, cond, not, ◌||◌, List, [], ◌≡◌, refl, ℕ, eqb}
+use Rattle.std.specs.Prelude.{None, Some, Ok}
 use Rattle.exact.specs.declared.fractions.Verdict.{Verdict}
 use Rattle.rules.specs.Plan.{Plan, columns}
 use Rattle.rules.specs.declared.Refusal.{Refusal}
 use Rattle.rules.specs.Refusals.{Check, refusal, refuses, accepted}
-use Rattle.compare.specs.Compare.{comparison_says, compare_patterns, pattern_of, compare_answer}
-use Rattle.compare.specs.declared.Comparison.TheVariants.{Compared, NotComparable, Refused}
+use Rattle.compare.specs.Compare.{comparison_says, refusal_of, compare_patterns, pattern_of, compare_answer}
 
 module _ (start : List Check → List Check) (p : Plan) (rs : List ℕ) (start_other : List Check → List Check) (q : Plan) (ss : List ℕ) where
   pub comparison-says :
@@ -17,7 +16,7 @@ module _ (start : List Check → List Check) (p : Plan) (rs : List ℕ) (start_o
       ≡ record {
         refused = cond (refuses r) r (cond (refuses s) s accepted);
         plan = cond (refuses r) 1 (cond (refuses s) 2 0);
-        verdict = cond (refuses r || refuses s || not (eqb (columns p) (columns q))) none (some (compare_patterns (pattern_of p rs) (pattern_of q ss)));
+        verdict = cond (refuses r || refuses s || not (eqb (columns p) (columns q))) None (Some (compare_patterns (pattern_of p rs) (pattern_of q ss)));
       }
   unfolding compare_answer
   comparison-says = go (refuses r) (refuses s) (eqb (columns p) (columns q))
@@ -32,8 +31,8 @@ module _ (start : List Check → List Check) (p : Plan) (rs : List ℕ) (start_o
       v = compare_patterns (pattern_of p rs) (pattern_of q ss)
 
       go : (a b c : Bool) →
-          comparison_says (cond a (Refused 1 r) (cond b (Refused 2 s) (cond c (Compared v) NotComparable)))
-          ≡ record { refused = cond a r (cond b s accepted); plan = cond a 1 (cond b 2 0); verdict = cond (a || b || not c) none (some v) }
+          comparison_says (cond a (refusal_of 1 r) (cond b (refusal_of 2 s) (Ok (cond c (Some v) None))))
+          ≡ record { refused = cond a r (cond b s accepted); plan = cond a 1 (cond b 2 0); verdict = cond (a || b || not c) None (Some v) }
       go true b c = refl
       go false true c = refl
       go false false true = refl

@@ -1,6 +1,6 @@
 -- Document 01, "Words" and "Refusal numbers": comparisons of the listing's plan with others, from the definitions.
-use Rattle.exact.proofs.Ground.{List, [], ◌∷◌, map, none, ◌≡◌, refl, ℕ}
-use mathlib.Core.Option.{Option, some}
+use Rattle.exact.proofs.Ground.{List, [], ◌∷◌, map, ◌≡◌, refl, ℕ}
+use Rattle.std.specs.Prelude.{Option, None, Some}
 use Rattle.exact.specs.Fractions.{smaller_fraction}
 use Rattle.exact.specs.declared.fractions.Verdict.{Verdict}
 use Rattle.exact.specs.declared.fractions.Verdict.TheVariants.{Better, Worse, Equal}
@@ -20,7 +20,7 @@ abbrev is : Plan → Plan → Option Verdict → Figure
 is p q v = record { first = p; second = q; answer = record { refused = accepted; plan = 0; verdict = v } }
 
 abbrev refuses : Plan → Plan → ℕ → Refusal → Figure
-refuses p q k r = record { first = p; second = q; answer = record { refused = r; plan = k; verdict = none } }
+refuses p q k r = record { first = p; second = q; answer = record { refused = r; plan = k; verdict = None } }
 
 -- levels 2,3 and the runs 00 01 12; then without run 0, and without run 2: W = 1, 8 and 2, 6 and 6, 2
 abbrev listed : Plan
@@ -38,11 +38,11 @@ refused = plan [] []
 figures : List Figure
 figures =
     -- 1/9 against 2/4, and 2/4 against 6/4: the numbers of runs may differ
-    is listed without-0 (some Better)
-    ∷ is without-2 without-0 (some Worse)
-    ∷ is listed listed (some Equal)
+    is listed without-0 (Some Better)
+    ∷ is without-2 without-0 (Some Worse)
+    ∷ is listed listed (Some Equal)
     -- two columns against one
-    ∷ is listed (plan (2 ∷ []) (0 ∷ 1 ∷ [])) none
+    ∷ is listed (plan (2 ∷ []) (0 ∷ 1 ∷ [])) None
     -- the first is checked entirely, then the second
     ∷ refuses refused (plan (1 ∷ []) []) 1 (plain 1)
     ∷ refuses listed refused 2 (plain 1)

@@ -1,14 +1,13 @@
--- A loop over the lengths: what the lengths from the present one on decide is what all decide.
-use Rattle.exact.proofs.Ground.{List, [], ◌∷◌, map, ◌≡◌, ◌∙◌, sym, ap, ap₂, ℕ, ◌≤◌, ◌<◌, ◌+◌, mul-pos, add-one, arith, pos, ℤ, length, get_or, take}
-use Rattle.exact.proofs.Ground.{drop, length-map, length-take-le, drop-cons, drop-length, get_or-take}
-use lib.ListN.{get_or-map}
+-- A loop over the lengths: each is of words, and its fractions are short.
+use Rattle.exact.proofs.Ground.{List, [], ◌∷◌, map, ◌≡◌, sym, refl, subst, ℕ, ◌≤◌, ◌<◌, suc, mul-pos, arith, pos, ℤ, length, get_or, take}
+use Rattle.exact.proofs.Ground.{length-take-le, get_or-take}
 use Rattle.exact.specs.Fractions.{then, smaller_fraction, ShortDenominator}
-use Rattle.exact.specs.declared.fractions.Fraction.{Fraction}
 use Rattle.exact.specs.declared.fractions.Verdict.{Verdict}
 use Rattle.exact.specs.declared.fractions.Verdict.TheVariants.{Equal}
 use Rattle.exact.proofs.Numbers.{mul-below}
+use Rattle.rules.specs.Plan.{most_columns}
 use Rattle.compare.specs.Compare.{over, compare_patterns}
-use Rattle.compare.specs.Given.{WordOf}
+use Rattle.compare.specs.Given.{WordOf, WordsOf}
 
 -- the denominator of a word is short
 pub over-short : (n : ℕ) (w : ℤ) → WordOf n w → ShortDenominator (over n w)
@@ -17,33 +16,40 @@ over-short n w W = record {
   short = omega (arith, mul-below n n 256 256 W.few W.few);
 }
 
--- the words of n runs from length j + 1 to m
-abbrev pub from_length : ℕ → ℕ → List ℤ → ℕ → List Fraction
-from_length n m words j = drop j (map (over n) (take m words))
+-- scaled words of n runs, as many as there are
+pub record Words (n : ℕ) (words : List ℤ) : Type 0 where
+  pub each : (j : ℕ) → j < length words → WordOf n (get_or words j (pos 0))
 
-module _ (n m : ℕ) (words : List ℤ) (long : m ≤ length words) where
-  lengths : length (map (over n) (take m words)) ≡ m
-  lengths = length-map (take m words) (over n) ∙ length-take-le m words long
+pub first-words : (n m : ℕ) (words : List ℤ) → m ≤ most_columns → WordsOf n words → Words n (take m words)
+first-words n m words h W = record {
+  each = λ j l.
+      let k : j < m = omega (arith, length-take-le m words (let r : m ≤ length words = omega (arith, W.long) in r)) in
+      subst (WordOf n) (sym (get_or-take m words j (pos 0) k)) (W.each j);
+}
 
-  next-length : (j : ℕ) → j < m → from_length n m words j ≡ over n (get_or words j (pos 0)) ∷ from_length n m words (j + 1)
-  next-length j h =
-      drop-cons (map (over n) (take m words)) j (over n (pos 0)) (rw lengths h)
-      ∙ ap₂ (λ x i. x ∷ drop i (map (over n) (take m words)))
-      (get_or-map (over n) (take m words) j (pos 0) ∙ ap (over n) (get_or-take m words j (pos 0) h)) (sym (add-one j))
+module _ {n : ℕ} {words rest : List ℤ} {word : ℤ} (e : words ≡ word ∷ rest) (W : Words n words) where
+  pub present-word : WordOf n word
+  present-word = (subst (Words n) e W).each 0 (omega arith)
 
-  no_length : (j : ℕ) → j ≡ m → from_length n m words j ≡ []
-  no_length j e = ap (λ i. drop i (map (over n) (take m words))) (e ∙ sym lengths) ∙ drop-length (map (over n) (take m words))
+  pub later-words : Words n rest
+  later-words = record { each = λ j h. (subst (Words n) e W).each (suc j) (omega arith) }
 
--- what the lengths after j decide
-abbrev pub later : (n k m : ℕ) (a b : List ℤ) → ℕ → Verdict
-later n k m a b j = compare_patterns (from_length n m a j) (from_length k m b j)
+-- the words of the present length decide, and where these are equal the later ones
+pub present-turn : (n k : ℕ) {xs xs' ys ys' : List ℤ} {x y : ℤ} {v all : Verdict} → xs ≡ x ∷ xs' → ys ≡ y ∷ ys' →
+    v ≡ smaller_fraction (over n x) (over k y) → compare_patterns (map (over n) xs) (map (over k) ys) ≡ all →
+    then v (compare_patterns (map (over n) xs') (map (over k) ys')) ≡ all
+unfolding compare_patterns
+present-turn n k e f g d = rw g (rw (e, f) at d)
 
-module _ (n k m : ℕ) (a b : List ℤ) (p : m ≤ length a) (q : m ≤ length b) where
-  pub later-turn : (j : ℕ) → j < m →
-      later n k m a b j ≡ then (smaller_fraction (over n (get_or a j (pos 0))) (over k (get_or b j (pos 0)))) (later n k m a b (j + 1))
+-- where no length is left, none decides
+module _ (n k : ℕ) where
+  pub first-none : (xs ys : List ℤ) → length xs ≡ 0 → compare_patterns (map (over n) xs) (map (over k) ys) ≡ Equal
   unfolding compare_patterns
-  later-turn j h = rw (next-length n m a p j h, next-length k m b q j h)
+  first-none [] ys e = refl
+  first-none (x ∷ xs) ys e = absurd (omega arith)
 
-  pub later-none : (j : ℕ) → j ≡ m → later n k m a b j ≡ Equal
+  pub second-none : (xs ys : List ℤ) → length ys ≡ 0 → compare_patterns (map (over n) xs) (map (over k) ys) ≡ Equal
   unfolding compare_patterns
-  later-none j e = rw (no_length n m a p j e)
+  second-none [] ys e = refl
+  second-none (x ∷ xs) [] e = refl
+  second-none (x ∷ xs) (y ∷ ys) e = absurd (omega arith)

@@ -1,6 +1,5 @@
 -- Document 01, "Words": the comparison of two plans (generalized minimum aberration).
-use Rattle.std.specs.Prelude.{cond, List, [], ◌∷◌, map, ℕ, ◌*◌, eqb, ℤ, nat_abs, length}
-use Rattle.std.proofs.Math.Option.{Option, none, some}
+use Rattle.std.specs.Prelude.{cond, List, [], ◌∷◌, map, ℕ, ◌*◌, eqb, ℤ, nat_abs, length, Option, None, Some, Result, Ok, Err}
 use Rattle.exact.specs.Lists.{from}
 use Rattle.exact.specs.Fractions.{then, smaller_fraction}
 use Rattle.exact.specs.declared.fractions.Fraction.{Fraction}
@@ -10,8 +9,7 @@ use Rattle.rules.specs.Plan.{Plan, columns, level, entry, every_column, every_ru
 use Rattle.rules.specs.Refusals.{Check, refusal, refuses, accepted, of_plan}
 use Rattle.rules.specs.declared.Refusal.{Refusal}
 use Rattle.words.specs.Words.{word}
-use Rattle.compare.specs.declared.Comparison.{Comparison}
-use Rattle.compare.specs.declared.Comparison.TheVariants.{Compared, NotComparable, Refused}
+use Rattle.compare.specs.declared.RefusedPlan.{RefusedPlan}
 
 -- the word A_j = W_j / n² of n runs (W_j is never negative)
 abbrev pub over : ℕ → ℤ → Fraction
@@ -38,28 +36,32 @@ pub record Says : Type 0 where
   pub plan : ℕ
   pub verdict : Option Verdict
 
-abbrev pub comparison_says : Comparison → Says
-comparison_says (Compared v) = record { refused = accepted; plan = 0; verdict = some v }
-comparison_says NotComparable = record { refused = accepted; plan = 0; verdict = none }
-comparison_says (Refused k r) = record { refused = r; plan = k; verdict = none }
+abbrev pub comparison_says : Result (Option Verdict) RefusedPlan → Says
+comparison_says (Ok v) = record { refused = accepted; plan = 0; verdict = v }
+comparison_says (Err r) = record { refused = r.refusal; plan = r.plan; verdict = None }
+
+-- the refusal r of the plan k
+abbrev pub refusal_of : {A : Type 0} → ℕ → Refusal → Result A RefusedPlan
+refusal_of k r = Err (record { plan = k; refusal = r })
 
 -- the pattern of the runs rs of plan p
 abbrev pub pattern_of : Plan → List ℕ → List Fraction
 pattern_of p rs = pattern (level p) (entry p) rs (every_column p)
 
 -- the pattern xs of a plan of m columns against ys of one of k columns
-abbrev pub verdict_of : ℕ → List Fraction → ℕ → List Fraction → Comparison
-verdict_of m xs k ys = cond (eqb m k) (Compared (compare_patterns xs ys)) NotComparable
+abbrev pub verdict_of : ℕ → List Fraction → ℕ → List Fraction → Option Verdict
+verdict_of m xs k ys = cond (eqb m k) (Some (compare_patterns xs ys)) None
 
--- the first refusal, then the second, and beside them the verdict; a refusal says which plan it is of, 1 or 2
-abbrev pub comparison_beside : Refusal → Refusal → Comparison → Comparison
-comparison_beside r s verdict = cond (refuses r) (Refused 1 r) (cond (refuses s) (Refused 2 s) verdict)
+-- the first refusal, then the second, and else the verdict; a refusal says which plan it is of, 1 or 2
+abbrev pub comparison_beside : Refusal → Refusal → Option Verdict → Result (Option Verdict) RefusedPlan
+comparison_beside r s verdict = cond (refuses r) (refusal_of 1 r) (cond (refuses s) (refusal_of 2 s) (Ok verdict))
 
 -- the runs rs of plan p against the runs ss of plan q; the first plan is checked entirely, then the second
-unfoldable pub compare_answer : (List Check → List Check) → Plan → List ℕ → (List Check → List Check) → Plan → List ℕ → Comparison
+unfoldable pub compare_answer : (List Check → List Check) → Plan → List ℕ → (List Check → List Check) → Plan → List ℕ →
+    Result (Option Verdict) RefusedPlan
 compare_answer start p rs start_other q ss =
     comparison_beside (refusal (start [])) (refusal (start_other [])) (verdict_of (columns p) (pattern_of p rs) (columns q) (pattern_of q ss))
 
 -- two plans, given as levels and table
-abbrev pub compare_plans : Plan → Plan → Comparison
+abbrev pub compare_plans : Plan → Plan → Result (Option Verdict) RefusedPlan
 compare_plans p q = compare_answer (of_plan p) p (every_run p) (of_plan q) q (every_run q)

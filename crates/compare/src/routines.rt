@@ -5,7 +5,7 @@ ghost use Rattle.rules.specs.Plan.{plan, most_columns};
 ghost use Rattle.compare.specs.Compare.{over, compare_patterns};
 ghost use Rattle.compare.specs.Given.{WordOf, WordsOf, Sided, compare_sides, whole_side};
 
-use crate::Comparison;
+use crate::RefusedPlan;
 use exact::fractions::{Fraction, Verdict};
 use exact::{fractions, signed};
 use rules::Refusal;
@@ -21,71 +21,61 @@ pub(crate) fn over(word: i64, n: usize) -> Fraction
 }
 
 // The words of one length, from the scaled words of n and of k runs.
-pub(crate) fn compare_word(a: i64, n: usize, b: i64, k: usize) -> Verdict
-    requires { (WordOf n a) × (WordOf k b) }
-    ensures { result ≡ smaller_fraction (over n a) (over k b) }
+pub(crate) fn compare_word(a: &i64, n: usize, b: &i64, k: usize) -> Verdict
+    requires { (WordOf n a.now) × (WordOf k b.now) }
+    ensures { result ≡ smaller_fraction (over n a.now) (over k b.now) }
 {
-    fractions::smaller_fraction(over(a, n), over(b, k))
+    fractions::smaller_fraction(over(*a, n), over(*b, k))
 }
 
 // The scaled words of n runs against those of k runs, by the first of the lengths 1 to m at which the words differ.
+#[tactic(auto, unfolding(crate::specs::Compare::compare_patterns))]
 pub fn compare_words(a: &[i64; 24], n: usize, b: &[i64; 24], k: usize, m: usize) -> Verdict
     requires { (WordsOf n a.now) × ((WordsOf k b.now) × (m ≤ most_columns)) }
     ensures { result ≡ compare_patterns (map (over n) (take m a.now)) (map (over k) (take m b.now)) }
 {
-    for j in 0..m {
-        match compare_word(a[j], n, b[j], k) {
-            Verdict::Better => return Verdict::Better,
-            Verdict::Worse => return Verdict::Worse,
-            Verdict::Equal => {}
+    for (x, y) in a[..m].iter().zip(&b[..m]) {
+        let verdict = compare_word(x, n, y, k);
+        if verdict != Verdict::Equal {
+            return verdict;
         }
     }
     Verdict::Equal
 }
 
-// What the comparison takes of a plan: the refusal, the scaled words of its runs, and the numbers of its runs and columns.
+// What the comparison takes of a plan: the scaled words of its runs, and the numbers of its runs and columns.
 #[derive(Clone, Copy)]
 pub struct Side {
-    pub refused: Refusal,
     pub words: [i64; 24],
     pub runs: usize,
     pub columns: usize,
 }
 
-// One side against the other, behind the refusals of both.
-pub fn compare_answer(first: Side, second: Side) -> Comparison
+// One side against the other, the first plan's refusal ahead of the second's.
+pub fn compare_answer(
+    first: Result<Side, Refusal>,
+    second: Result<Side, Refusal>,
+) -> Result<Option<Verdict>, RefusedPlan>
     requires { Sided first × Sided second }
     ensures { result ≡ compare_sides first second }
 {
-    let refused1 = first.refused;
-    if refused1.number != 0 {
-        return Comparison::Refused(1, refused1);
+    let a = first.map_err(|refusal| RefusedPlan { plan: 1, refusal })?;
+    let b = second.map_err(|refusal| RefusedPlan { plan: 2, refusal })?;
+    if a.columns != b.columns {
+        return Ok(None);
     }
-    let refused2 = second.refused;
-    if refused2.number != 0 {
-        return Comparison::Refused(2, refused2);
-    }
-    let m = first.columns;
-    if m != second.columns {
-        return Comparison::NotComparable;
-    }
-    let a = first.words;
-    let b = second.words;
-    Comparison::Compared(compare_words(&a, first.runs, &b, second.runs, m))
+    let verdict = compare_words(&a.words, a.runs, &b.words, b.runs, a.columns);
+    Ok(Some(verdict))
 }
 
 // All runs of a plan, behind its checks.
-pub(crate) fn side_of(levels: &[u8], table: &[u8]) -> Side
+pub(crate) fn side_of(levels: &[u8], table: &[u8]) -> Result<Side, Refusal>
     ensures { result ≡ whole_side (plan levels.now table.now) }
 {
-    let checked = plan::routines::checked_runs(levels, table);
-    let refused = checked.refused;
-    let answer = words::routines::words_answer(refused, levels, table);
-    let words = answer.words;
-    Side {
-        refused,
-        words,
-        runs: checked.count,
+    plan::check(levels, table)?;
+    Ok(Side {
+        words: words::routines::words_of_plan(levels, table),
+        runs: table.len() / levels.len(),
         columns: levels.len(),
-    }
+    })
 }

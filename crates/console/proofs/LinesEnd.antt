@@ -7,9 +7,9 @@ use native.Mathlib.Numerals.{add-one, unary_clauses}
 use native.Mathlib.Omega.{arith}
 use borrow.Author.Tests.{eq-eqb, ne_eqb}
 use lib.Dec.{eqb}
-use lib.ListN.{length, get_or, take, drop, length-drop}
-use lib.Seq.{drop-cons, drop-length, take_all}
-use Rattle.console.specs.Lines.{lines_end, first_line, line_after}
+use lib.ListN.{length, get_or, drop}
+use lib.Seq.{drop-cons, drop-length}
+use Rattle.console.specs.Lines.{lines_end}
 
 -- the bytes before a place are passed, and so many lines are left to pass
 pub record Passed (text : List ℕ) (count left at : ℕ) : Type 0 where
@@ -37,7 +37,7 @@ module _ {text : List ℕ} {count left at : ℕ} (P : Passed text count left at)
   pub lines-passed : left ≡ 0 → at ≡ lines_end text count
   lines-passed z = let e = P.whole in let n = ap (lines_end (drop at text)) z ∙ no_line (drop at text) in omega arith
 
-  pub all-passed : length text ≤ at → at ≡ lines_end text count
+  pub all-passed : length text ≤ at → length text ≡ lines_end text count
   all-passed h =
       let w = P.within in
       let a : at ≡ length text = omega arith in
@@ -59,11 +59,3 @@ module _ {text : List ℕ} {count left at : ℕ} (P : Passed text count left at)
 
     pub other-passed : ¬ (get_or text at 0 ≡ 10) → Passed text count left (at + 1)
     other-passed e = byte-passed left (rw (ne_eqb (get_or text at 0) 10 e))
-
--- the first line of what is left behind the lines above
-pub line-found : (text : List ℕ) (above start size : ℕ) → start ≤ length text → start ≡ lines_end text above →
-    size ≡ lines_end (take (length text - start) (drop start text)) 1 → take size (take (length text - start) (drop start text)) ≡ line_after text above
-line-found text above start size h e l =
-    let rest : take (length text - start) (drop start text) ≡ drop start text =
-    take_all (length text - start) (drop start text) (omega (arith, length-drop start text)) in
-    ap (λ n. take n (take (length text - start) (drop start text))) l ∙ ap first_line (rest ∙ ap (λ n. drop n text) e)

@@ -1,14 +1,11 @@
 -- Reading a number digit by digit.
-use Rattle.exact.proofs.Ground.{true, false, List, [], ◌∷◌, ◌++◌, ◌≡◌, ◌∙◌, ap, refl, ℕ, ◌≤◌, ◌<◌, ◌-◌, ◌+◌, ◌*◌, suc, zero, ◌^◌, add-one, arith, T}
-use Rattle.exact.proofs.Ground.{leb, length, get_or, take, take-suc, take_all, le-ltb, lt-ltb, le-leb}
+use Rattle.exact.proofs.Ground.{true, List, [], ◌∷◌, ◌++◌, ◌≡◌, ◌∙◌, ap, refl, ℕ, ◌≤◌, ◌<◌, ◌-◌, ◌+◌, ◌*◌, suc, zero, ◌^◌, add-one, arith, T}
+use Rattle.exact.proofs.Ground.{leb, length, get_or, take, take-suc, le-leb}
 use native.Mathlib.Nat.{pow-suc}
 use Rattle.exact.specs.Lists.{all}
-use Rattle.exact.proofs.Tests.{is_true, is_false, true-is, both, join, all-mem}
-use Rattle.exact.proofs.Members.{get_or-mem}
+use Rattle.exact.proofs.Tests.{true-is, both, join}
 use Rattle.text.specs.Decimal.{value, value_after}
 use Rattle.text.specs.Text.{is_digit}
-use Rattle.text.proofs.Digits.{digit-is}
-use Rattle.console.specs.Arguments.{no_number, number_named}
 
 value-snoc : (n : ℕ) (bytes : List ℕ) (b : ℕ) → value_after n (bytes ++ b ∷ []) ≡ value_after n bytes * 10 + (b - 48)
 value-snoc n [] b = refl
@@ -51,25 +48,3 @@ thousand (suc (suc (suc (suc i)))) h = absurd (omega arith)
 
 pub few : (bytes : List ℕ) (i : ℕ) {number : ℕ} → ReadTo bytes i number → i ≤ 3 → number < 1000
 few bytes i R h = let s = R.small in let t = thousand i h in omega arith
-
--- ---- what the argument names
-
-pub no_bytes : (bytes : List ℕ) → length bytes < 1 → no_number ≡ number_named bytes
-no_bytes bytes h = rw (lt-ltb (length bytes) 1 h)
-
-pub many-bytes : (bytes : List ℕ) → 1 ≤ length bytes → 3 < length bytes → no_number ≡ number_named bytes
-many-bytes bytes h k = rw (le-ltb (length bytes) 1 h, lt-ltb 3 (length bytes) k)
-
-module _ (bytes : List ℕ) (h : 1 ≤ length bytes) (k : length bytes ≤ 3) where
-  pub no_digit : (i : ℕ) → i < length bytes → ¬ (48 ≤ get_or bytes i 0 × get_or bytes i 0 ≤ 57) → no_number ≡ number_named bytes
-  no_digit i l n =
-      let d : all bytes is_digit ≡ false =
-      is_false (all bytes is_digit)
-      (λ t. n (digit-is (get_or bytes i 0) (is_true (is_digit (get_or bytes i 0)) (all-mem is_digit bytes t (get_or bytes i 0) (get_or-mem bytes i 0 l))))) in
-      rw (le-ltb (length bytes) 1 h, le-ltb 3 (length bytes) k, d)
-
-  pub all_digits : (i : ℕ) {number : ℕ} → i ≡ length bytes → ReadTo bytes i number → number ≡ number_named bytes
-  all_digits i e R =
-      let w : take i bytes ≡ bytes = take_all i bytes (omega arith) in
-      let d : all bytes is_digit ≡ true = is_true (all bytes is_digit) (rw w at R.digits) in
-      rw (le-ltb (length bytes) 1 h, le-ltb 3 (length bytes) k, d) (R.stands ∙ ap value w)

@@ -1,5 +1,5 @@
 -- The number that an argument names: a run, a column.
-use Rattle.std.specs.Prelude.{Bool, cond, not, ◌&&◌, List, ℕ, length}
+use Rattle.std.specs.Prelude.{Bool, cond, not, ◌&&◌, List, ℕ, length, Option, Some, None}
 use Rattle.exact.specs.Lists.{all, outside}
 use Rattle.text.specs.Decimal.{value}
 use Rattle.text.specs.Text.{is_digit}
@@ -8,10 +8,6 @@ use Rattle.text.specs.Text.{is_digit}
 abbrev pub is_number : List ℕ → Bool
 is_number bytes = not (outside 1 3 (length bytes)) && all bytes is_digit
 
--- no plan has so many runs or columns
-abbrev pub no_number : ℕ
-no_number = 1000
-
 -- any other bytes name none
-abbrev pub number_named : List ℕ → ℕ
-number_named bytes = cond (is_number bytes) (value bytes) no_number
+abbrev pub number_named : List ℕ → Option ℕ
+number_named bytes = cond (is_number bytes) (Some (value bytes)) None

@@ -14,44 +14,31 @@ const NINE: u8 = 57;
 // The system opens no longer path.
 pub const MOST_PATH: usize = 4096;
 
-// No plan has so many runs or columns.
+// What stands where no number is named: no plan has so many runs or columns.
 const NO_NUMBER: usize = 1000;
 
-fn wide(byte: u8) -> usize
-    ensures { result ≡ byte }
-{
-    byte as usize
-}
-
 // The number that an argument names by one to three digits; any other bytes name none.
-fn number_named(bytes: &[u8]) -> usize
+fn number_named(bytes: &[u8]) -> Option<usize>
     ensures { result ≡ number_named bytes.now }
 {
-    let size = bytes.len();
-    if size < 1 {
-        return NO_NUMBER;
-    }
-    if 3 < size {
-        return NO_NUMBER;
+    if bytes.is_empty() || 3 < bytes.len() {
+        return None;
     }
     let mut number = 0;
-    for i in 0..size {
-        if bytes[i] < ZERO {
-            return NO_NUMBER;
+    for byte in bytes {
+        if *byte < ZERO || NINE < *byte {
+            return None;
         }
-        if NINE < bytes[i] {
-            return NO_NUMBER;
-        }
-        number = number * 10 + wide(bytes[i] - ZERO);
+        number = number * 10 + usize::from(*byte - ZERO);
     }
-    number
+    Some(number)
 }
 
 // The number named by one argument; there is none where the argument is missing or longer than eight bytes.
 pub fn number_at<A: Env>(env: &A, argument: usize) -> usize {
     let mut bytes = [0u8; 8];
     match env.arg(argument, &mut bytes) {
-        Ok(size) => number_named(&bytes[..size]),
+        Ok(size) => number_named(&bytes[..size]).unwrap_or(NO_NUMBER),
         Err(_) => NO_NUMBER,
     }
 }
@@ -61,12 +48,9 @@ pub fn number_at<A: Env>(env: &A, argument: usize) -> usize {
 pub fn numbers_at<A: Env>(env: &A, first: usize, end: usize, room: &mut [usize]) -> usize
     ensures { IsPrefixLen result room.new }
 {
-    let mut count = 0;
-    let mut argument = first;
-    while count < room.len() && argument < end {
-        room[count] = number_at(env, argument);
-        count += 1;
-        argument += 1;
+    let count = room.len().min(end.saturating_sub(first));
+    for (place, argument) in room[..count].iter_mut().zip(first..end) {
+        *place = number_at(env, argument);
     }
     count
 }
@@ -84,16 +68,9 @@ pub fn argument_count<A: Env>(env: &A) -> usize {
 // The place of the argument `--`, and the number of arguments where there is none.
 pub fn dashes<A: Env>(env: &A) -> usize {
     let arguments = argument_count(env);
-    for k in 1..arguments {
-        if is_dashes(env, k) {
-            return k;
-        }
-    }
-    arguments
-}
-
-fn is_dashes<A: Env>(env: &A, argument: usize) -> bool {
-    is_word(env, argument, b"--")
+    (1..arguments)
+        .find(|k| is_word(env, *k, b"--"))
+        .unwrap_or(arguments)
 }
 
 // Whether the argument is this word of eight bytes at most.

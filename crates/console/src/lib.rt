@@ -4,6 +4,7 @@
 ghost use Rattle.std.specs.Prelude.{◌≡◌, ◌+◌, ◌<◌, length, take, IsNone, IsTrue};
 ghost use Rattle.std.specs.Io.KnownBytes.{Appends, Consumes, IsAtEnd};
 ghost use Rattle.rules.specs.Plan.{longest_text, most_columns, most_entries};
+ghost use Rattle.rules.specs.Refusals.{answered};
 ghost use Rattle.text.specs.Reader.{read_refusal};
 ghost use Rattle.console.specs.Counts.{IsPrefixLen};
 
@@ -144,14 +145,14 @@ pub fn write<O: Write, E: Write>(output: &mut O, errors: &mut E, bytes: &[u8]) -
     }
 }
 
-// What refuses a text: 13, 14 or 1 to 5. Number 0 is no refusal.
-pub fn refusal_of(text: &[u8]) -> Refusal
-    ensures { result ≡ read_refusal text.now most_columns most_entries }
+// What refuses a text: 13, 14 or 1 to 5.
+pub fn check_text(text: &[u8]) -> Result<(), Refusal>
+    ensures { result ≡ answered (read_refusal text.now most_columns most_entries) tt }
 {
     let mut levels = [0u8; MOST_COLUMNS];
     let mut table = [0u8; MOST_ENTRIES];
-    let answer = text::read(text, &mut levels, &mut table);
-    answer.refused
+    text::read(text, &mut levels, &mut table)?;
+    Ok(())
 }
 
 // Writes to standard error. What cannot be said is passed over.
@@ -160,18 +161,15 @@ pub fn say<E: Write>(errors: &mut E, bytes: &[u8]) {
 }
 
 // Writes a number to standard error, behind a space.
-pub fn say_number<E: Write>(errors: &mut E, number: u64) {
+pub fn say_number<E: Write>(errors: &mut E, number: usize) {
     let _ = write!(errors, " {number}");
 }
 
 // A word, and behind it the bytes as numbers.
 fn say_bytes<E: Write>(errors: &mut E, word: &[u8], bytes: &[u8]) {
     say(errors, word);
-    for k in 0..bytes.len() {
-        if k == MOST_SHOWN {
-            break;
-        }
-        say_number(errors, u64::from(bytes[k]));
+    for byte in bytes.iter().take(MOST_SHOWN) {
+        say_number(errors, usize::from(*byte));
     }
     say(errors, b"\n");
 }
@@ -186,13 +184,14 @@ fn say_malformed<E: Write>(errors: &mut E, text: &[u8], number: usize) {
 
 // Says on standard error what refuses a text, and what is malformed in it.
 pub fn say_refusal<E: Write>(errors: &mut E, refused: Refusal, text: &[u8]) {
-    say(errors, b"refused");
-    say_number(errors, refused.number);
-    say_number(errors, refused.first as u64);
-    say_number(errors, refused.second as u64);
-    say(errors, b"\n");
-    if refused.number == MALFORMED {
-        say_malformed(errors, text, refused.first);
+    let Refusal {
+        number,
+        first,
+        second,
+    } = refused;
+    let _ = writeln!(errors, "refused {number} {first} {second}");
+    if number == MALFORMED {
+        say_malformed(errors, text, first);
     }
 }
 

@@ -10,17 +10,15 @@ pub fn lines_end(text: &[u8], count: usize) -> usize
     ensures within { result ≤ length text.now }
 {
     let mut left = count;
-    let mut at = 0;
-    while at < text.len() {
+    for (at, byte) in text.iter().enumerate() {
         if left == 0 {
             return at;
         }
-        if text[at] == LINE_FEED {
+        if *byte == LINE_FEED {
             left -= 1;
         }
-        at += 1;
     }
-    at
+    text.len()
 }
 
 // The line that stands behind so many lines, with the byte 10 that ends it: no bytes past the last line.

@@ -2,10 +2,11 @@
 use Rattle.exact.proofs.Ground.{true, false, Bool, cond, ◌&&◌, List, [], ◌∷◌, map, ◌++◌, Memᴰ, mem-head, mem-tail}
 use Rattle.exact.proofs.Ground.{mem-of_singleton, ◌≡◌, ◌∙◌, sym, ap, refl, subst, fun_ext, ℕ, ◌≤◌, ◌<◌, ◌-◌, ◌+◌, ◌*◌, suc, zero, min}
 use Rattle.exact.proofs.Ground.{ℕ_discrete, zero-add, mul-pos, le_refl, add-one, arith, eqb, drop_of_length-le, length, get_or, take, drop, set}
-use Rattle.exact.proofs.Ground.{length-set, take_at, take-suc, drop-cons, ext_get_or, ne_eqb, eq-eqb}
+use Rattle.exact.proofs.Ground.{length-set, length-drop, take_all, take_at, take-suc, drop-cons, ext_get_or, ne_eqb, eq-eqb}
 use mathlib.Core.List.{map-append}
 use native.Mathlib.Nat.{mul_assoc, mul-le-mul_left, min-eq_right}
 use lib.Seq.{get_or-set_same, get_or-set_other}
+use Rattle.std.specs.List.{list_all}
 use Rattle.exact.specs.Lists.{from, all, alike, count, largest}
 use Rattle.exact.proofs.Numbers.{from-add, map-from-at}
 use Rattle.exact.proofs.Rooms.{length-numbered}
@@ -145,9 +146,19 @@ module _ {A : Type 0} (test : A → Bool) (xs : List A) where
   pub all-passed : (k : ℕ) → length xs ≤ k → all (drop k xs) test ≡ true
   all-passed k h = rw (drop_of_length-le xs h)
 
+module _ {A : Type 0} (test : A → Bool) where
+  listed-all : (ys : List A) → list_all test ys ≡ all ys test
+  listed-all [] = refl
+  listed-all (y ∷ ys) = ap (λ b. test y && b) (listed-all ys)
+
+-- the counts after the first are compared with it
 pub alike-rest : (xs : List ℕ) → all (drop 1 xs) (λ y. eqb (get_or xs 0 0) y) ≡ alike xs
 alike-rest [] = refl
 alike-rest (x ∷ xs) = refl
+
+pub alike-others : (xs : List ℕ) → 1 ≤ length xs → list_all (λ y. eqb (get_or xs 0 0) y) (take (length xs - 1) (drop 1 xs)) ≡ alike xs
+alike-others xs h =
+    rw (take_all (length xs - 1) (drop 1 xs) (omega (arith, length-drop 1 xs))) (listed-all (λ y. eqb (get_or xs 0 0) y) (drop 1 xs) ∙ alike-rest xs)
 
 -- ---- the sets of t of some columns, place after place
 

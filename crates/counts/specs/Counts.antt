@@ -1,11 +1,10 @@
 -- Document 01, "Strength, resolution, projections": strength, found from counts.
-use Rattle.std.specs.Prelude.{Bool, true, false, ◌&&◌, List, [], ◌∷◌, map, ℕ, eqb, length}
+use Rattle.std.specs.Prelude.{Bool, true, false, ◌&&◌, List, [], ◌∷◌, map, ℕ, eqb, length, Result}
 use Rattle.exact.specs.Lists.{from, each, all, alike, count, largest}
 use Rattle.rules.specs.Plan.{Plan, level, entry, every_column}
 use Rattle.rules.specs.declared.Refusal.{Refusal}
-use Rattle.rules.specs.Refusals.{Check, refusal, unless}
+use Rattle.rules.specs.Refusals.{Check, refusal, answered}
 use Rattle.sets.specs.Sets.{choose}
-use Rattle.counts.specs.declared.StrengthAnswer.{StrengthAnswer}
 
 module _ {C : Type 0} (level : C → ℕ) where
   -- the level combinations of the columns J, in dictionary order
@@ -39,9 +38,6 @@ module _ {R C : Type 0} (level : C → ℕ) (entry : R → C → ℕ) (rs : List
 
 -- of the runs rs of a plan
 module _ (p : Plan) (rs : List ℕ) where
-  -- the refusal, and beside it the strength
-  abbrev pub strength_beside : Refusal → StrengthAnswer
-  strength_beside r = record { refused = r; strength = unless r 0 (strength (level p) (entry p) rs (every_column p)) }
-
-  unfoldable pub strength_answer : (List Check → List Check) → StrengthAnswer
-  strength_answer start = strength_beside (refusal (start []))
+  -- the strength of all columns, or the refusal
+  unfoldable pub strength_answer : (List Check → List Check) → Result ℕ Refusal
+  strength_answer start = answered (refusal (start [])) (strength (level p) (entry p) rs (every_column p))

@@ -10,19 +10,10 @@ ghost use Rattle.counts.specs.Counts.{strength_answer};
 
 use rules::Refusal;
 
-// The refusal, and beside it the strength, which is zero in a refusal.
-#[derive(Clone, Copy)]
-pub struct StrengthAnswer {
-    pub refused: Refusal,
-    pub strength: usize,
-}
-
 // The largest t such that in every choice of t columns all level combinations occur equally often.
-pub fn strength(levels: &[u8], table: &[u8]) -> StrengthAnswer
+pub fn strength(levels: &[u8], table: &[u8]) -> Result<usize, Refusal>
     ensures { let p = plan levels.now table.now in result ≡ strength_answer p (every_run p) (of_plan p) }
 {
-    let checked = plan::routines::checked_runs(levels, table);
-    let runs = checked.runs;
-    let count = checked.count;
-    routines::strength_answer(checked.refused, levels, table, &runs[..count])
+    let runs = plan::routines::checked_runs(levels, table)?;
+    Ok(routines::strength(levels, table, runs.as_slice()))
 }

@@ -1,15 +1,14 @@
 // For our own crates: counts over some runs of a plan, which each caller has shown to be sound.
-ghost use Rattle.std.specs.Prelude.{◌≡◌, [], ◌∷◌, ◌+◌, ◌≤◌, min, length};
+ghost use Rattle.std.specs.Prelude.{◌≡◌, [], ◌∷◌, ◌+◌, ◌≤◌, min, eqb, length};
+ghost use Rattle.std.specs.List.{list_all};
 ghost use Rattle.exact.specs.Lists.{alike};
 ghost use Rattle.rules.specs.Plan.{plan, level, entry, every_column, most_columns, most_runs, highest_product};
 ghost use Rattle.plan.specs.Good.{Sound};
-ghost use Rattle.counts.specs.Counts.{even, balanced, strength, strength_beside};
+ghost use Rattle.counts.specs.Counts.{even, balanced, strength};
 ghost use Rattle.counts.specs.Numbered.{product_of, number_of, tallies, Columns};
 
-use crate::StrengthAnswer;
 use next_sets::{among, first_set, next_set};
 use plan::routines::several_levels;
-use rules::Refusal;
 use sets::routines::binomial;
 
 // How many combinations the columns have, the product of their levels; limit + 1 where that is above limit.
@@ -19,9 +18,8 @@ pub fn product_of(levels: &[u8], columns: &[usize], limit: usize) -> usize
     ensures { result ≡ min (product_of (level (plan levels.now [])) columns.now) (limit + 1) }
 {
     let mut product = 1;
-    for k in 0..columns.len() {
-        let i = columns[k];
-        product *= levels[i] as usize;
+    for i in columns {
+        product *= usize::from(levels[*i]);
         if limit < product {
             return limit + 1;
         }
@@ -38,23 +36,27 @@ pub fn combination(levels: &[u8], table: &[u8], run: usize, columns: &[usize]) -
 {
     let start = run * levels.len();
     let mut number = 0;
-    for k in 0..columns.len() {
-        let i = columns[k];
-        number = number * (levels[i] as usize) + (table[start + i] as usize);
+    for i in columns {
+        number = number * usize::from(levels[*i]) + usize::from(table[start + *i]);
     }
     number
+}
+
+// Whether each of the counts is this one.
+fn are(counts: &[u16], times: u16) -> bool
+    ensures { result ≡ list_all (λ count. eqb times count) counts.now }
+{
+    counts.iter().all(|count| times == *count)
 }
 
 // Whether the counts are all equal.
 pub fn are_alike(counts: &[u16]) -> bool
     ensures { result ≡ alike counts.now }
 {
-    for k in 1..counts.len() {
-        if counts[k] != counts[0] {
-            return false;
-        }
+    match counts {
+        [] => true,
+        [first, others @ ..] => are(others, *first),
     }
-    true
 }
 
 // How often each combination of the columns occurs, by its number.
@@ -65,8 +67,8 @@ pub fn tallies(levels: &[u8], table: &[u8], runs: &[usize], columns: &[usize]) -
     ensures { result ≡ tallies (plan levels.now table.now) runs.now columns.now }
 {
     let mut counters = [0u16; 256];
-    for k in 0..runs.len() {
-        let number = combination(levels, table, runs[k], columns);
+    for run in runs {
+        let number = combination(levels, table, *run, columns);
         counters[number] += 1;
     }
     counters
@@ -121,12 +123,10 @@ pub fn strength_of(levels: &[u8], table: &[u8], runs: &[usize], columns: &[usize
     ensures { let p = plan levels.now table.now in
         result ≡ strength (level p) (entry p) runs.now columns.now }
 {
-    let mut t = columns.len();
-    while 0 < t {
+    for t in (1..=columns.len()).rev() {
         if is_balanced(levels, table, runs, columns, t) {
             return t;
         }
-        t -= 1;
     }
     0
 }
@@ -137,34 +137,10 @@ pub fn strength(levels: &[u8], table: &[u8], runs: &[usize]) -> usize
     requires in_bounds { 1 ≤ length runs.now }
     ensures { let p = plan levels.now table.now in result ≡ strength (level p) (entry p) runs.now (every_column p) }
 {
-    let several = several_levels(levels);
-    let columns = several.columns;
-    let many = several.many;
-    let found = strength_of(levels, table, runs, &columns[..many]);
-    if found == many {
+    let columns = several_levels(levels);
+    let found = strength_of(levels, table, runs, columns.as_slice());
+    if found == columns.len() {
         return levels.len();
     }
     found
-}
-
-// The answer for some runs of a plan, behind the refusal that the call begins with.
-pub fn strength_answer(
-    refused: Refusal,
-    levels: &[u8],
-    table: &[u8],
-    runs: &[usize],
-) -> StrengthAnswer
-    requires { refused.number ≡ 0 → Sound (plan levels.now table.now) runs.now × (1 ≤ length runs.now) }
-    ensures { result ≡ strength_beside (plan levels.now table.now) runs.now refused }
-{
-    if refused.number != 0 {
-        return StrengthAnswer {
-            refused,
-            strength: 0,
-        };
-    }
-    StrengthAnswer {
-        refused,
-        strength: strength(levels, table, runs),
-    }
 }

@@ -76,3 +76,12 @@ module _ {A : Type 0} where
 
   pub filled-front : (n : ℕ) (d : A) (xs : List A) → take (length xs) (filled_to n d xs) ≡ xs
   filled-front n d xs = take_at xs (replicate (n - length xs) d) (length xs) refl
+
+-- the numbers from 0 on, and zeros
+pub number-written : (f n : ℕ) → f < n → set (from 0 f ++ replicate (n - f) 0) f f ≡ from 0 (f + 1) ++ replicate (n - (f + 1)) 0
+number-written f n h =
+    let e : n - f ≡ suc (n - (f + 1)) = omega arith in
+    rw (e, from-snoc 0 f, zero-add, append_assoc) (set_at (from 0 f) 0 (replicate (n - (f + 1)) 0) f f (length_from 0 f))
+
+pub numbers-front : (f n : ℕ) → take f (from 0 f ++ replicate n 0) ≡ from 0 f
+numbers-front f n = take_at (from 0 f) (replicate n 0) f (length_from 0 f)

@@ -1,6 +1,6 @@
 -- What a test tells, for `&&`, `||` and `all`. (borrow.Author.Tests has the tests on numbers.)
 use Rattle.exact.proofs.Ground.{true, false, Bool, not, ◌&&◌, ◌||◌, List, [], ◌∷◌, Memᴰ, mem-head, mem-tail}
-use Rattle.exact.proofs.Ground.{mem-not_nil, ◌≡◌, sym, refl, subst, T}
+use Rattle.exact.proofs.Ground.{mem-not_nil, ◌≡◌, sym, refl, subst, ℕ, T, eqb, eqb→eq, eqb_refl}
 use Rattle.exact.specs.Lists.{all}
 
 pub is_true : (b : Bool) → T b → b ≡ true
@@ -23,6 +23,9 @@ iff-eq true true f g = refl
 iff-eq true false f g = absurd (f tt)
 iff-eq false true f g = absurd (g tt)
 iff-eq false false f g = refl
+
+pub eqb-sym : (a b : ℕ) → eqb a b ≡ eqb b a
+eqb-sym a b = iff-eq (eqb a b) (eqb b a) (λ t. rw (eqb→eq a b t) (eqb_refl b)) (λ t. rw (eqb→eq b a t) (eqb_refl a))
 
 -- ---- and, or
 

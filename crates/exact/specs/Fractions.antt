@@ -1,5 +1,8 @@
 -- Document 01, "Words" and "Strength, resolution, projections": fractions, reduced and compared exactly.
 use Rattle.std.specs.Prelude.{Bool, true, false, cond, ◌&&◌, ℕ, ◌*◌, ◌/◌, ◌%◌, ◌<◌, ◌^◌, max, eqb, ltb}
+use Rattle.std.specs.declared.cmp.Ordering.{Ordering}
+use Rattle.std.specs.declared.cmp.Ordering.TheVariants.{Less, Greater}
+use Rattle.std.specs.declared.cmp.Ordering.TheVariants as order
 use Rattle.exact.specs.Lists.{largest}
 use Rattle.exact.specs.declared.fractions.Fraction.{Fraction}
 use Rattle.exact.specs.declared.fractions.Verdict.{Verdict}
@@ -29,6 +32,12 @@ abbrev pub is_equal : Verdict → Bool
 is_equal Better = false
 is_equal Worse = false
 is_equal Equal = true
+
+-- the verdict on a number that compares so with another
+abbrev pub verdict_of : Ordering → Verdict
+verdict_of Less = Better
+verdict_of Greater = Worse
+verdict_of order.Equal = Equal
 
 -- the first verdict, and the second where the first is equal
 abbrev pub then : Verdict → Verdict → Verdict

@@ -1,19 +1,33 @@
 // For our own crates: fractions, reduced and compared exactly (document 01, "Words" and "Strength, resolution, projections").
 ghost use Rattle.std.specs.Prelude.{◌≡◌, ◌<◌};
-ghost use Rattle.exact.specs.Fractions.{gcd, reduced, smaller, smaller_fraction, is_better, is_equal, ShortDenominator};
+ghost use Rattle.exact.specs.Fractions.{gcd, reduced, smaller, smaller_fraction, verdict_of, ShortDenominator};
 
-#[derive(Clone, Copy)]
+use std::cmp::Ordering;
+
+#[derive(Clone, Copy, Debug, PartialEq, Eq)]
 pub struct Fraction {
     pub num: u64,
     pub den: u64,
 }
 
 // How two numbers, words or plans compare. The smaller is better.
-#[derive(Clone, Copy)]
+#[derive(Clone, Copy, Debug, PartialEq, Eq)]
 pub enum Verdict {
     Better,
     Worse,
     Equal,
+}
+
+impl From<Ordering> for Verdict {
+    ghost from_gives = { λ order verdict. verdict ≡ verdict_of order };
+
+    fn from(order: Ordering) -> Verdict {
+        match order {
+            Ordering::Less => Verdict::Better,
+            Ordering::Greater => Verdict::Worse,
+            Ordering::Equal => Verdict::Equal,
+        }
+    }
 }
 
 // The greatest common divisor, by Euclid's loop.
@@ -43,13 +57,7 @@ pub fn reduced(a: u64, b: u64) -> Fraction
 pub fn smaller(a: u64, b: u64) -> Verdict
     ensures { result ≡ smaller a b }
 {
-    if a < b {
-        return Verdict::Better;
-    }
-    if b < a {
-        return Verdict::Worse;
-    }
-    Verdict::Equal
+    Verdict::from(a.cmp(&b))
 }
 
 // The products across can pass 64 bits. The quotients decide first; what is left of the numerators is below the denominators.
@@ -63,24 +71,4 @@ pub fn smaller_fraction(x: Fraction, y: Fraction) -> Verdict
         return smaller(left, right);
     }
     smaller(x.num % x.den * y.den, y.num % y.den * x.den)
-}
-
-pub fn is_better(verdict: Verdict) -> bool
-    ensures { result ≡ is_better verdict }
-{
-    match verdict {
-        Verdict::Better => true,
-        Verdict::Worse => false,
-        Verdict::Equal => false,
-    }
-}
-
-pub fn is_equal(verdict: Verdict) -> bool
-    ensures { result ≡ is_equal verdict }
-{
-    match verdict {
-        Verdict::Better => false,
-        Verdict::Worse => false,
-        Verdict::Equal => true,
-    }
 }

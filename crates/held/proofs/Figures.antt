@@ -1,7 +1,7 @@
 -- Worked figures: strikes and reinstatements, from the definitions. The starred ones of document 01 stand in `planner` Starred.
 use Rattle.exact.proofs.Ground.{List, [], ◌∷◌, map, ◌≡◌, refl, pos, ℤ, take}
 use Rattle.rules.specs.Plan.{Plan, plan}
-use Rattle.rules.specs.Refusals.{first_bad_level, first_bad_entry}
+use Rattle.rules.specs.Refusals.{refusal_in, first_bad_level, first_bad_entry}
 use Rattle.words.specs.Words.{score, word_of, word}
 use Rattle.words.specs.Answers.{word_list}
 use Rattle.held.specs.declared.Held.{Held}
@@ -19,7 +19,7 @@ held_after p cs = after (open_answer p).held cs
 ask : Question → List ℤ
 unfolding open_answer first_bad_level first_bad_entry held_of standing call_answer call_checks remarked word_list word word_of score
 ask (words p cs) = take 2 (held_after p cs).words
-ask (refused_call p cs c) = pos (call_answer (held_after p cs) c).refused.number ∷ []
+ask (refused_call p cs c) = pos (refusal_in (call_answer (held_after p cs) c).answer).number ∷ []
 
 record Figure : Type 0 where
   question : Question

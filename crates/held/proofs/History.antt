@@ -5,12 +5,12 @@ use mathlib.Core.Option.{Option, some}
 use lib.Seq.{get_or-set_same, get_or-set_other, set-set, set_comm}
 use Rattle.exact.proofs.Tests.{clash}
 use Rattle.rules.specs.Plan.{Plan, columns, runs, most_runs}
-use Rattle.rules.specs.Refusals.{refuses, accepted}
+use Rattle.rules.specs.Refusals.{refuses, accepted, refusal_in}
 use Rattle.plan.specs.Good.{Good}
 use Rattle.words.specs.Words.{word}
 use Rattle.words.specs.Answers.{word_list}
 use Rattle.held.specs.declared.Held.{Held}
-use Rattle.held.specs.declared.HeldAnswer.{HeldAnswer}
+use Rattle.held.specs.declared.Answered.{Answered}
 use Rattle.held.specs.Held.{
   standing,
   held_of,
@@ -32,7 +32,7 @@ use Rattle.held.specs.Held.{
 }
 use Rattle.held.specs.History.{is_accepted, after, or_before, own, last_of, stands_by, mark_of}
 use Rattle.held.proofs.Standing.{marked, stands-marked, fewer, set_same}
-use Rattle.held.proofs.Marks.{answered, refusal_of, marks_after, Accepts, accepts, after-ind, length-after, left_after, marks-in, plan-in, call-is, call-empty}
+use Rattle.held.proofs.Marks.{handed, refuses-in, refusal_of, marks_after, Accepts, accepts, after-ind, length-after, left_after, marks-in, plan-in, call-is, call-empty}
 
 -- ---- every call hands back a held plan
 
@@ -60,7 +60,7 @@ words-after H cs = words-standing (after-held H cs)
 
 pub refused-same : (h : Held) (c : Call) → is_accepted h c ≡ false → (call_answer h c).held ≡ h
 unfolding call_answer
-refused-same h c e = go (refuses (refusal_of (marks_in h) c)) e
+refused-same h c e = go (refuses (refusal_of (marks_in h) c)) (ap not (sym (refuses-in (refusal_of (marks_in h) c) tt)) ∙ e)
   where
     go : (b : Bool) → not b ≡ false → cond b h (remarked h (run_of c) (stands c)) ≡ h
     go true d = refl
@@ -110,18 +110,20 @@ same-standing H cs ds s = determined (after-held H cs) (after-held H ds) (plan_a
 -- ---- an accepted call on a held plan sets the mark
 
 never-empty : {X : Type 0} (c : Call) → is_accepted empty_held c ≡ true → X
-never-empty c e = clash true refl (sym e ∙ ap (λ (a : HeldAnswer). not (refuses a.refused)) (call-empty c))
+never-empty c e = clash true refl (sym e ∙ ap (λ (a : Answered Unit). not (refuses (refusal_in a.answer))) (call-empty c))
 
 module _ (p : Plan) (G : Good p) (marks : List Bool) (size : length marks ≡ runs p) (c : Call) (a : is_accepted (held_of p marks) c ≡ true) where
   not-refused : refuses (refusal_of marks c) ≡ false
-  not-refused = not-true _ (sym (ap (λ (x : HeldAnswer). not (refuses x.refused)) (call-is p G marks size c)) ∙ a)
+  not-refused =
+      not-true _ (ap not (sym (refuses-in (refusal_of marks c) tt))
+      ∙ sym (ap (λ (x : Answered Unit). not (refuses (refusal_in x.answer))) (call-is p G marks size c)) ∙ a)
 
   accepts-held : Accepts marks c
   accepts-held = accepts marks c not-refused
 
   mark_set : (call_answer (held_of p marks) c).held ≡ held_of p (set marks (run_of c) (stands c))
   mark_set =
-      ap (λ (x : HeldAnswer). x.held) (call-is p G marks size c)
+      ap (λ (x : Answered Unit). x.held) (call-is p G marks size c)
       ∙ ap (λ b. held_of p (cond b marks (set marks (run_of c) (stands c)))) not-refused
 
 -- ---- calls on different runs lead to the same plan in either order, where both orders are accepted
@@ -172,7 +174,7 @@ undo-marks marks (strikes f) A = set-set marks f false true ∙ set_same marks f
 undo-marks marks (reinstates f) A = set-set marks f true false ∙ set_same marks f false A.before
 
 pub undo : {h : Held} → IsHeld h → (c : Call) → is_accepted h c ≡ true →
-    call_answer (call_answer h c).held (undone c) ≡ answered accepted h
+    call_answer (call_answer h c).held (undone c) ≡ handed accepted h
 undo none-held c e = never-empty c e
 undo (held p marks G size left) c e =
     let A = accepts-held p G marks size c e in
@@ -186,7 +188,7 @@ undo (held p marks G size left) c e =
 mark-step : (h : Held) (c : Call) (f : ℕ) → (is_accepted h c ≡ true → run_of c < length h.marks) →
     mark_of (call_answer h c).held f ≡ stands_by (mark_of h f) (own h c f)
 unfolding call_answer remarked
-mark-step h c f there = go (refuses (refusal_of (marks_in h) c)) there
+mark-step h c f there = rw (refuses-in (refusal_of (marks_in h) c) (tt {0})) (go (refuses (refusal_of (marks_in h) c)) (rw (refuses-in (refusal_of (marks_in h) c) (tt {0})) at there))
   where
     at : (b : Bool) → run_of c < length h.marks → eqb (run_of c) f ≡ b →
         get_or (set h.marks (run_of c) (stands c)) f false ≡ stands_by (mark_of h f) (cond b (some c) none)

@@ -1,42 +1,32 @@
--- What a call on a held plan lends to the routines below: parts of its arrays, the standing runs, and how large their numbers are.
-use Rattle.exact.proofs.Ground.{true, false, Bool, List, [], ◌∷◌, ◌≡◌, ◌∙◌, sym, ap, refl, ℕ, ◌≤◌, ◌<◌, ◌-◌, ◌*◌, suc, ◌^◌, arith, pos, ℤ, nat_abs}
-use Rattle.exact.proofs.Ground.{length, get_or, take, length-take-le, get_or-take, ne_eqb, le-ltb, w64, to_z, of_z}
+-- What a call on a held plan hands to the routines below: its levels, the standing runs, and how large their numbers are.
+use Rattle.exact.proofs.Ground.{true, false, Bool, List, [], ◌∷◌, ◌≡◌, ◌∙◌, sym, ap, refl, ℕ, ◌≤◌, ◌<◌, ◌-◌, suc, ◌^◌, arith, pos, ℤ, nat_abs}
+use Rattle.exact.proofs.Ground.{length, get_or, length-take-le, get_or-take, ne_eqb, le-ltb, w64, to_z, of_z}
+use Rattle.std.specs.Prelude.{Ok, Err}
 use Rattle.exact.proofs.Bits.{fits, back}
-use Rattle.exact.proofs.Rooms.{filled-length, filled-front}
-use Rattle.rules.specs.Plan.{Plan, plan, columns, level, entry, every_column, most_runs}
-use Rattle.rules.specs.Refusals.{Check, refusal, plain, unless, or_else, of_held, too_few}
-use Rattle.rules.proofs.Ranges.{unless-accepted}
+use Rattle.rules.specs.Plan.{Plan, plan, columns, level, entry, every_column}
+use Rattle.rules.specs.declared.Refusal.{Refusal}
+use Rattle.rules.specs.Refusals.{Check, refusal, answered, plain, or_else, of_held, too_few}
+use Rattle.rules.proofs.Answered.{answered-err, err-refused, err-is, ok-accepted, ok-is}
+use Rattle.rules.proofs.Ranges.{or-refused, or-accepted}
 use Rattle.plan.specs.Good.{Sound}
 use Rattle.words.specs.Words.{word, row_sum, diagonal}
 use Rattle.words.specs.Given.{Row}
-use Rattle.words.specs.Answers.{zeros, word_list, row_list, diagonal_list}
+use Rattle.words.specs.Answers.{word_list, row_list, diagonal_list}
 use Rattle.words.proofs.Totals.{by-length-row}
 use Rattle.words.proofs.OfPlan.{sound-levels, row_small, word_small, diagonal-small}
 use Rattle.words.proofs.Answered.{word_at}
 use Rattle.held.specs.declared.Held.{Held}
-use Rattle.held.specs.declared.routines.Standing.{Standing}
-use Rattle.held.specs.Held.{IsHeld, none-held, held, held_of, standing, marks_in, plan_in, standing_in, of_standing, remarked}
-use Rattle.held.specs.Given.{standing_of, Changes, factor_of, changed}
+use Rattle.held.specs.Held.{IsHeld, standing, marks_in, plan_in, standing_in, of_standing, remarked}
+use Rattle.held.specs.Given.{Changes, factor_of, changed}
 use Rattle.held.proofs.History.{words-standing}
 use Rattle.held.proofs.Sizes.{sized}
-use Rattle.held.proofs.Marks.{marks-in}
 use Rattle.held.proofs.Standing.{standing-within}
 use Rattle.held.proofs.Update.{words-changed}
 
--- ---- the levels and the entries, as the fronts of their rooms
+-- ---- the levels are as many as the columns
 
-module _ {h : Held} (H : IsHeld h) where
-  pub levels-lent : h.columns ≤ length h.levels
-  levels-lent = let S = sized H in omega arith
-
-  pub columns-in : columns (plan_in h) ≡ h.columns
-  columns-in = length-take-le h.columns h.levels levels-lent
-
-  pub entries-lent : h.runs * h.columns ≤ length h.entries
-  entries-lent = let S = sized H in omega arith
-
-  pub size_fits : h.runs * h.columns < 2 ^ 64
-  size_fits = let S = sized H in omega arith
+pub columns-in : {h : Held} → IsHeld h → columns (plan_in h) ≡ h.columns
+columns-in {h} H = let S = sized H in length-take-le h.columns h.levels (omega arith)
 
 -- a question is refused by 10 where no run stands, and else by its own checks
 pub standing-begins : (h : Held) (checks : List Check) → refusal (of_standing h checks) ≡ or_else (refusal (of_standing h [])) (refusal checks)
@@ -66,42 +56,38 @@ some-stand h z = go (standing_in h) z
 pub some_runs : {h : Held} → IsHeld h → 1 ≤ length (standing_in h) → 0 < h.runs
 some_runs {h} H l = omega (arith, standing-within (marks_in h), (sized H).marks-held)
 
--- ---- the standing runs, as the front of theirs
+-- ---- the standing runs, behind refusal 10 where there is none
 
-module _ {h : Held} (H : IsHeld h) {s : Standing} (e : s ≡ standing_of (marks_in h)) where
-  pub lent_runs : take s.count s.runs ≡ standing_in h
-  unfolding standing_of
-  lent_runs = rw e (filled-front most_runs 0 (standing_in h))
+pub none-stands : (rs : List ℕ) → refusal (too_few 1 (length rs) ∷ []) ≡ refusal (of_held rs [])
+none-stands [] = refl
+none-stands (f ∷ rs) = rw (le-ltb (suc (length rs)) 1 (omega arith), ne_eqb (suc (length rs)) 0 (λ q. omega arith))
 
-  pub count-is : s.count ≡ length (standing_in h)
-  unfolding standing_of
-  count-is = rw e
+-- where it stops, so does every question, whatever its checks
+pub stops : (h : Held) {e : Refusal} → Err e ≡ answered (refusal (too_few 1 (length (standing_in h)) ∷ [])) (standing_in h) →
+    {B : Type 0} (checks : List Check) (value : B) → Err e ≡ answered (refusal (of_standing h checks)) value
+stops h w checks value =
+    let n = err-refused _ (standing_in h) w in
+    let q = none-stands (standing_in h) in
+    rw (standing-begins h checks, or-refused (refusal (of_standing h [])) (refusal checks) (rw q at n))
+    (ap Err (err-is _ (standing_in h) w ∙ q) ∙ sym (answered-err _ value (rw q at n)))
 
-  pub runs-lent : s.count ≤ length s.runs
-  unfolding standing_of
-  runs-lent = rw (e, filled-length most_runs 0 (standing_in h) (sized H).sound.few) (sized H).sound.few
+module _ (h : Held) {y : List ℕ} (w : Ok y ≡ answered (refusal (too_few 1 (length (standing_in h)) ∷ [])) (standing_in h)) where
+  -- where it goes on, the runs are those that stand, one or more
+  pub runs-are : y ≡ standing_in h
+  runs-are = ok-is _ (standing_in h) w
 
-  pub held-refusal : s.refused ≡ refusal (of_standing h [])
-  unfolding standing_of
-  held-refusal = rw e (go (standing_in h))
-    where
-      go : (rs : List ℕ) → refusal (too_few 1 (length rs) ∷ []) ≡ refusal (of_held rs [])
-      go [] = refl
-      go (f ∷ rs) = rw (le-ltb (suc (length rs)) 1 (omega arith), ne_eqb (suc (length rs)) 0 (λ q. omega arith))
+  begins-well : (refusal (of_standing h [])).number ≡ 0
+  begins-well = ap (λ r. r.number) (sym (none-stands (standing_in h))) ∙ ok-accepted _ (standing_in h) w
 
-  pub held-handed : (checks : List Check) → or_else s.refused (refusal checks) ≡ refusal (of_standing h checks)
-  held-handed checks = ap (λ r. or_else r (refusal checks)) held-refusal ∙ sym (standing-begins h checks)
+  pub some-run : 1 ≤ length (standing_in h)
+  some-run = some-stand h begins-well
 
-  pub lent-sound : Sound (plan_in h) (take s.count s.runs)
-  lent-sound = rw lent_runs (sized H).sound
+  -- and it is refused by its own checks alone
+  pub asks-on : (checks : List Check) → refusal (of_standing h checks) ≡ refusal checks
+  asks-on checks = standing-begins h checks ∙ or-accepted _ (refusal checks) begins-well
 
-  pub lent-some : s.refused.number ≡ 0 → 1 ≤ length (take s.count s.runs)
-  lent-some z = rw lent_runs (some-stand h (ap (λ r. r.number) (sym held-refusal) ∙ z))
-
-module _ {A : Type 0} {n : ℕ} (xs : List A) where
-  -- a front has the length asked for
-  pub front : n ≤ length xs → n ≡ length (take n xs)
-  front h = sym (length-take-le n xs h)
+  pub goes-on : {B : Type 0} (checks : List Check) (value : B) → answered (refusal (of_standing h checks)) value ≡ answered (refusal checks) value
+  goes-on checks value = ap (λ r. answered r value) (asks-on checks)
 
 -- ---- the numbers are small
 
@@ -124,17 +110,6 @@ factor-small false = omega arith
 
 pub factor-is : (b : Bool) → to_z w64 (of_z w64 (factor_of b)) ≡ factor_of b
 factor-is b = back (fits (factor_of b) (omega (arith, factor-small b)))
-
--- the words held are those of the standing runs, and all zero where none stands
-pub words-beside : {h : Held} → IsHeld h → unless (refusal (of_standing h [])) zeros (word_list (plan_in h) (standing_in h)) ≡ h.words
-unfolding standing
-words-beside none-held = refl
-words-beside (held p marks G size left) =
-    let h = held_of p marks in
-    let H = held p marks G size left in
-    let some : 0 < length (standing_in h) = rw (marks-in p marks size) left in
-    unless-accepted (refusal (of_standing h [])) zeros (word_list (plan_in h) (standing_in h)) (rw (ne_eqb (length (standing_in h)) 0 (λ q. omega arith)))
-    ∙ sym (words-standing H)
 
 -- a word read from the held plan
 pub word_read : {h : Held} → IsHeld h → (j : ℕ) → 1 ≤ j → j ≤ h.columns →

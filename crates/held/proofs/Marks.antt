@@ -1,17 +1,18 @@
 -- A call on a held plan is a call on its marks: what it accepts, and what it leaves.
-use Rattle.exact.proofs.Ground.{true, false, Bool, cond, not, List, ◌++◌, ◌≡◌, ◌∙◌, sym, ap, refl, ap₂, ℕ, ◌<◌, ◌-◌, ◌+◌, ◌*◌, arith, ltb, length}
-use Rattle.exact.proofs.Ground.{get_or, replicate, set, length-set, take_at, le-ltb, ltb-false}
+use Rattle.exact.proofs.Ground.{true, false, Bool, cond, not, List, ◌++◌, ◌≡◌, ◌∙◌, sym, ap, refl, ap₂, ℕ, ◌<◌, ◌-◌, ◌*◌, arith, ltb, length}
+use Rattle.exact.proofs.Ground.{get_or, replicate, set, length-set, take_at, le-ltb, ltb-false, eqb}
+use Rattle.std.specs.Prelude.{Ok, Err, is_ok}
 use borrow.Author.Tests.{ltb-true}
 use lib.Seq.{set-append_left}
 use Rattle.exact.specs.Lists.{filled_to}
 use Rattle.exact.proofs.Tests.{clash}
 use Rattle.rules.specs.Plan.{Plan, plan, columns, runs, most_columns, most_runs, most_entries}
-use Rattle.rules.specs.Refusals.{refusal, refuses, unless, plain, accepted}
+use Rattle.rules.specs.Refusals.{refusal, refuses, answered, refusal_in, unless, plain, accepted}
 use Rattle.rules.specs.declared.Refusal.{Refusal}
 use Rattle.plan.specs.Good.{Good}
 use Rattle.words.specs.Answers.{word_list}
 use Rattle.held.specs.declared.Held.{Held}
-use Rattle.held.specs.declared.HeldAnswer.{HeldAnswer}
+use Rattle.held.specs.declared.Answered.{Answered}
 use Rattle.held.specs.Held.{
   standing,
   held_of,
@@ -29,8 +30,32 @@ use Rattle.held.specs.Held.{
 }
 use Rattle.held.proofs.Standing.{fewer, set_same}
 
-abbrev pub answered : Refusal → Held → HeldAnswer
-answered r h = record { refused = r; held = h }
+-- the plan handed back, and the refusal of the call
+abbrev pub handed : Refusal → Held → Answered Unit
+handed r h = record { held = h; answer = answered r tt }
+
+-- an answer refuses where its refusal does
+pub refuses-in : {A : Type 0} (r : Refusal) (value : A) → refuses (refusal_in (answered r value)) ≡ refuses r
+refuses-in r value = go (eqb r.number 0) refl
+  where
+    go : (b : Bool) → eqb r.number 0 ≡ b → refuses (refusal_in (cond (not b) (Err r) (Ok value))) ≡ not b
+    go true e = refl
+    go false e = rw e
+
+-- whether an answer is a value tells its refusal
+module _ {A : Type 0} (r : Refusal) (value : A) where
+  ok-refuses : (b : Bool) → is_ok (answered r value) ≡ b → refuses r ≡ not b
+  ok-refuses b e = go (refuses r) refl e
+    where
+      go : (c : Bool) → refuses r ≡ c → is_ok {E = Refusal} (cond c (Err r) (Ok value)) ≡ b → c ≡ not b
+      go true d e = ap not e
+      go false d e = ap not e
+
+  pub accepted-ok : is_ok (answered r value) ≡ true → refuses r ≡ false
+  accepted-ok = ok-refuses true
+
+  pub refused-ok : is_ok (answered r value) ≡ false → refuses r ≡ true
+  refused-ok = ok-refuses false
 
 -- ---- what a call does to the marks
 
@@ -122,18 +147,18 @@ module _ (p : Plan) (G : Good p) (marks : List Bool) (size : length marks ≡ ru
 
   -- a call on a held plan is a call on its marks
   pub call-is : (c : Call) →
-      call_answer (held_of p marks) c ≡ answered (refusal_of marks c) (held_of p (marks_after marks c))
+      call_answer (held_of p marks) c ≡ handed (refusal_of marks c) (held_of p (marks_after marks c))
   unfolding call_answer
   call-is c = rw (marks-in p marks size) (go (refuses (refusal_of marks c)) refl)
     where
       go : (b : Bool) → refuses (refusal_of marks c) ≡ b →
-          answered (refusal_of marks c) (cond b (held_of p marks) (remarked (held_of p marks) (run_of c) (stands c)))
-          ≡ answered (refusal_of marks c) (held_of p (cond b marks (set marks (run_of c) (stands c))))
+          handed (refusal_of marks c) (cond b (held_of p marks) (remarked (held_of p marks) (run_of c) (stands c)))
+          ≡ handed (refusal_of marks c) (held_of p (cond b marks (set marks (run_of c) (stands c))))
       go true e = refl
-      go false e = ap (answered (refusal_of marks c)) (remarked-held (run_of c) (stands c) (accepts marks c e).there)
+      go false e = ap (handed (refusal_of marks c)) (remarked-held (run_of c) (stands c) (accepts marks c e).there)
 
 -- every call on the empty plan is refusal 8
-pub call-empty : (c : Call) → call_answer empty_held c ≡ answered (plain 8) empty_held
+pub call-empty : (c : Call) → call_answer empty_held c ≡ handed (plain 8) empty_held
 unfolding call_answer call_checks
 call-empty (strikes f) = rw (le-ltb f 0 (omega arith))
 call-empty (reinstates f) = rw (le-ltb f 0 (omega arith))

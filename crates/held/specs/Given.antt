@@ -1,19 +1,9 @@
 -- What the routines behind a call are given, and what they make of it.
-use Rattle.std.specs.Prelude.{◌≡◌, Bool, true, false, not, List, [], ◌∷◌, map, ℕ, ◌<◌, ℤ, pos, negsuc, ◌+ℤ◌, ◌*ℤ◌, length, get_or}
-use Rattle.exact.specs.Lists.{from, filled_to}
-use Rattle.rules.specs.Plan.{most_columns, most_runs}
-use Rattle.rules.specs.Refusals.{refusal, too_few}
-use Rattle.held.specs.Held.{IsHeld, standing}
+use Rattle.std.specs.Prelude.{◌≡◌, Bool, true, false, not, List, map, ℕ, ◌<◌, ℤ, pos, negsuc, ◌+ℤ◌, ◌*ℤ◌, get_or}
+use Rattle.exact.specs.Lists.{from}
+use Rattle.rules.specs.Plan.{most_columns}
+use Rattle.held.specs.Held.{IsHeld}
 use Rattle.held.specs.declared.Held.{Held}
-use Rattle.held.specs.declared.routines.Standing.{Standing}
-
--- refusal 10 where no run stands, the standing runs of these marks, and how many they are
-unfoldable pub standing_of : List Bool → Standing
-standing_of marks = record {
-  refused = refusal (too_few 1 (length (standing marks)) ∷ []);
-  runs = filled_to most_runs 0 (standing marks);
-  count = length (standing marks);
-}
 
 -- a call that changes the mark of run f to b
 pub record Changes (h : Held) (f : ℕ) (b : Bool) : Type 0 where

@@ -2,11 +2,11 @@
 use Rattle.std.specs.Prelude.{◌≡◌, Bool, true, false, not, List, [], ◌∷◌, ℕ, suc, ◌*◌, ◌<◌, length, get_or, set, take, replicate}
 use Rattle.exact.specs.Lists.{filled_to}
 use Rattle.rules.specs.Plan.{Plan, plan, columns, runs, most_columns, most_runs, most_entries}
-use Rattle.rules.specs.Refusals.{Check, refusal, unless, of_held, plan_checks, bad_place, already, too_few}
+use Rattle.rules.specs.Refusals.{Check, refusal, answered, unless, of_held, plan_checks, bad_place, already, too_few}
 use Rattle.plan.specs.Good.{Good}
 use Rattle.words.specs.Answers.{word_list, zeros}
 use Rattle.held.specs.declared.Held.{Held}
-use Rattle.held.specs.declared.HeldAnswer.{HeldAnswer}
+use Rattle.held.specs.declared.Answered.{Answered}
 
 -- the numbers of the runs whose mark is set, the first mark being that of run a
 abbrev pub standing_from : ℕ → List Bool → List ℕ
@@ -63,9 +63,9 @@ of_standing h checks = of_held (standing_in h) checks
 
 -- ---- opening: the plan is checked; all runs stand
 
-unfoldable pub open_answer : Plan → HeldAnswer
+unfoldable pub open_answer : Plan → Answered Unit
 open_answer p =
-    let r = refusal (plan_checks p) in record { refused = r; held = unless r empty_held (held_of p (replicate (runs p) true)) }
+    let r = refusal (plan_checks p) in record { held = unless r empty_held (held_of p (replicate (runs p) true)); answer = answered r tt }
 
 -- ---- strike and reinstatement
 
@@ -101,6 +101,6 @@ remarked h f b = record {
 }
 
 -- a refused call hands the plan back as it was
-unfoldable pub call_answer : Held → Call → HeldAnswer
+unfoldable pub call_answer : Held → Call → Answered Unit
 call_answer h c =
-    let r = refusal (call_checks (marks_in h) c) in record { refused = r; held = unless r h (remarked h (run_of c) (stands c)) }
+    let r = refusal (call_checks (marks_in h) c) in record { held = unless r h (remarked h (run_of c) (stands c)); answer = answered r tt }

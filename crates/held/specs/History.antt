@@ -1,12 +1,12 @@
 -- Document 01, "The held plan": histories of strikes and reinstatements, refused calls among them.
 use Rattle.std.specs.Prelude.{Bool, false, cond, not, List, [], ◌∷◌, ℕ, eqb, get_or}
 use Rattle.std.proofs.Math.Option.{Option, none, some}
-use Rattle.rules.specs.Refusals.{refuses}
+use Rattle.rules.specs.Refusals.{refuses, refusal_in}
 use Rattle.held.specs.declared.Held.{Held}
 use Rattle.held.specs.Held.{Call, run_of, stands, call_answer}
 
 abbrev pub is_accepted : Held → Call → Bool
-is_accepted h c = not (refuses (call_answer h c).refused)
+is_accepted h c = not (refuses (refusal_in (call_answer h c).answer))
 
 -- the plan after the calls, one after the other
 abbrev pub after : Held → List Call → Held

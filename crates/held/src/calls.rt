@@ -2,14 +2,15 @@
 ghost use Rattle.std.specs.Prelude.{◌≡◌, true, false, ◌≤◌, replicate};
 ghost use Rattle.exact.specs.Lists.{filled_to};
 ghost use Rattle.rules.specs.Plan.{plan, runs, most_runs};
+ghost use Rattle.rules.specs.Refusals.{refusal, answered};
 ghost use Rattle.plan.specs.Good.{Good};
-ghost use Rattle.held.specs.Held.{IsHeld, held_of, empty_held, open_answer, strikes, reinstates, remarked, call_answer};
+ghost use Rattle.held.specs.Held.{IsHeld, held_of, empty_held, open_answer, strikes, reinstates, marks_in, call_checks, remarked, call_answer};
 ghost use Rattle.held.specs.Given.{Changes};
 
 use crate::measures::{diagonal_of, row_of};
-use crate::routines::{changed_words, factor, standing_runs};
-use crate::{Held, HeldAnswer};
-use exact::bytes::copy;
+use crate::routines::{changed_words, factor, standing_numbers};
+use crate::{Answered, Held};
+use exact::lent::copy;
 use rules::Refusal;
 use rules::sizes::MOST_ENTRIES;
 
@@ -17,17 +18,13 @@ use rules::sizes::MOST_ENTRIES;
 fn empty() -> Held
     ensures { result ≡ empty_held }
 {
-    let levels = [0u8; 24];
-    let entries = [0u8; MOST_ENTRIES];
-    let marks = [false; 256];
-    let words = [0i64; 24];
     Held {
         columns: 0,
         runs: 0,
-        levels,
-        entries,
-        marks,
-        words,
+        levels: [0; 24],
+        entries: [0; MOST_ENTRIES],
+        marks: [false; 256],
+        words: [0; 24],
     }
 }
 
@@ -37,9 +34,7 @@ fn all_marked(n: usize) -> [bool; 256]
     ensures { result ≡ filled_to most_runs false (replicate n true) }
 {
     let mut marks = [false; 256];
-    for f in 0..n {
-        marks[f] = true;
-    }
+    marks[..n].fill(true);
     marks
 }
 
@@ -66,87 +61,79 @@ fn opened(levels: &[u8], table: &[u8]) -> Held
 }
 
 // Refusals 1 to 5; a refused opening gives the empty plan.
-pub fn open(levels: &[u8], table: &[u8]) -> HeldAnswer
+pub fn open(levels: &[u8], table: &[u8]) -> Answered<()>
     ensures { result ≡ open_answer (plan levels.now table.now) }
 {
-    let refused = plan::check(levels, table);
-    if refused.number != 0 {
-        return HeldAnswer {
-            refused,
-            held: empty(),
-        };
-    }
-    HeldAnswer {
-        refused,
-        held: opened(levels, table),
-    }
+    let answer = plan::check(levels, table);
+    let held = if answer.is_ok() {
+        opened(levels, table)
+    } else {
+        empty()
+    };
+    Answered { held, answer }
 }
 
 // The mark of a run changed, and the words by one row sum.
-fn remarked(held: Held, run: usize, stands: bool) -> Held
-    requires { Changes held run stands }
-    ensures { result ≡ remarked held run stands }
+fn remark(held: &mut Held, run: usize, stands: bool)
+    requires { Changes held.old run stands }
+    ensures { held.new ≡ remarked held.old run stands }
 {
-    let words = held.words;
     let row = row_of(held, run);
-    let sums = row.sums;
     let diagonal = diagonal_of(held);
-    let changed = changed_words(&words, factor(stands), &sums, &diagonal);
-    let mut next = held;
-    next.marks[run] = stands;
-    next.words = changed;
-    next
+    held.words = changed_words(&held.words, factor(stands), &row.sums, &diagonal);
+    held.marks[run] = stands;
 }
 
 // A strike needs a standing run and two or more standing.
-// Kept out of its callers, which would hold each copy of the plan.
-#[inline(never)]
-pub fn strike(held: Held, run: usize) -> HeldAnswer
-    requires { IsHeld held }
-    ensures { result ≡ call_answer held (strikes run) }
+fn check_strike(held: &Held, run: usize) -> Result<(), Refusal>
+    requires { IsHeld held.now }
+    ensures { result ≡ answered (refusal (call_checks (marks_in held.now) (strikes run))) tt }
 {
-    let runs = held.runs;
-    let marks = held.marks;
-    if runs <= run {
-        let refused = Refusal::plain(8);
-        return HeldAnswer { refused, held };
+    if held.runs <= run {
+        return Err(Refusal::plain(8));
     }
-    if marks[run] {
-        let standing = standing_runs(held);
-        if standing.count < 2 {
-            let refused = Refusal::plain(10);
-            return HeldAnswer { refused, held };
-        }
-        let refused = Refusal::accepted();
-        let next = remarked(held, run, false);
-        return HeldAnswer {
-            refused,
-            held: next,
-        };
+    if !held.marks[run] {
+        return Err(Refusal::plain(9));
     }
-    let refused = Refusal::plain(9);
-    HeldAnswer { refused, held }
+    Refusal::too_few(2, standing_numbers(held).len())
 }
 
 // A reinstatement needs a struck run.
-pub fn reinstate(held: Held, run: usize) -> HeldAnswer
+fn check_reinstatement(held: &Held, run: usize) -> Result<(), Refusal>
+    requires { IsHeld held.now }
+    ensures { result ≡ answered (refusal (call_checks (marks_in held.now) (reinstates run))) tt }
+{
+    if held.runs <= run {
+        return Err(Refusal::plain(8));
+    }
+    if held.marks[run] {
+        return Err(Refusal::plain(9));
+    }
+    Ok(())
+}
+
+// A refused strike hands the plan back as it was.
+// Kept out of its callers, which would hold each copy of the plan.
+#[inline(never)]
+pub fn strike(mut held: Held, run: usize) -> Answered<()>
+    requires { IsHeld held }
+    ensures { result ≡ call_answer held (strikes run) }
+{
+    let answer = check_strike(&held, run);
+    if answer.is_ok() {
+        remark(&mut held, run, false);
+    }
+    Answered { held, answer }
+}
+
+// A refused reinstatement, too.
+pub fn reinstate(mut held: Held, run: usize) -> Answered<()>
     requires { IsHeld held }
     ensures { result ≡ call_answer held (reinstates run) }
 {
-    let runs = held.runs;
-    let marks = held.marks;
-    if runs <= run {
-        let refused = Refusal::plain(8);
-        return HeldAnswer { refused, held };
+    let answer = check_reinstatement(&held, run);
+    if answer.is_ok() {
+        remark(&mut held, run, true);
     }
-    if marks[run] {
-        let refused = Refusal::plain(9);
-        return HeldAnswer { refused, held };
-    }
-    let refused = Refusal::accepted();
-    let next = remarked(held, run, true);
-    HeldAnswer {
-        refused,
-        held: next,
-    }
+    Answered { held, answer }
 }

@@ -2,6 +2,9 @@
 // It goes in by value and comes back by value; a call may take as given that it came from an opening or an earlier call.
 #![tactic(auto)]
 
+ghost use Rattle.std.specs.Prelude.{◌≡◌};
+ghost use Rattle.held.specs.Held.{IsHeld, plan_in};
+
 use rules::Refusal;
 use rules::sizes::MOST_ENTRIES;
 
@@ -20,9 +23,25 @@ pub struct Held {
     pub words: [i64; 24],
 }
 
-// What an opening, a strike and a reinstatement answer.
+impl Held {
+    pub fn levels(&self) -> &[u8]
+        requires { IsHeld self.now }
+        ensures { result.now ≡ (plan_in self.now).levels }
+    {
+        &self.levels[..self.columns]
+    }
+
+    pub fn table(&self) -> &[u8]
+        requires { IsHeld self.now }
+        ensures { result.now ≡ (plan_in self.now).table }
+    {
+        &self.entries[..self.runs * self.columns]
+    }
+}
+
+// What every call on a held plan hands back: the plan, and the answer.
 #[derive(Clone, Copy)]
-pub struct HeldAnswer {
-    pub refused: Refusal,
+pub struct Answered<T> {
     pub held: Held,
+    pub answer: Result<T, Refusal>,
 }

@@ -1,43 +1,38 @@
 // The runs that stand, and the words that a change of mark leaves.
-ghost use Rattle.std.specs.Prelude.{◌≡◌, ◌≤◌, ◌^◌, nat_abs};
+ghost use Rattle.std.specs.Prelude.{◌≡◌, [], ◌∷◌, ◌≤◌, ◌^◌, nat_abs, length};
+ghost use Rattle.rules.specs.Refusals.{refusal, answered, too_few};
 ghost use Rattle.words.specs.Given.{Row};
-ghost use Rattle.held.specs.Held.{IsHeld, marks_in};
-ghost use Rattle.held.specs.Given.{standing_of, factor_of, changed};
+ghost use Rattle.held.specs.Held.{IsHeld, marks_in, standing, standing_in};
+ghost use Rattle.held.specs.Given.{factor_of, changed};
 
 use crate::Held;
+use exact::listed::Numbers;
 use exact::signed;
 use rules::Refusal;
-
-// How a question to a held plan begins: refusal 10 where no run stands. The first `count` places hold the numbers of the standing runs,
-// rising; the others zero.
-#[derive(Clone, Copy)]
-pub struct Standing {
-    pub refused: Refusal,
-    pub runs: [usize; 256],
-    pub count: usize,
-}
+use rules::sizes::MOST_RUNS;
 
 // The runs that stand, in number order.
-pub fn standing_runs(held: Held) -> Standing
-    requires { IsHeld held }
-    ensures { result ≡ standing_of (marks_in held) }
+pub(crate) fn standing_numbers(held: &Held) -> Numbers<MOST_RUNS>
+    requires { IsHeld held.now }
+    ensures { result ≡ standing_in held.now }
 {
-    let n = held.runs;
-    let marks = held.marks;
-    let mut runs = [0usize; 256];
-    let mut count = 0;
-    for f in 0..n {
-        if marks[f] {
-            runs[count] = f;
-            count += 1;
+    let mut standing = Numbers::new();
+    for (f, stands) in held.marks[..held.runs].iter().enumerate() {
+        if *stands {
+            standing.push(f);
         }
     }
-    let refused = Refusal::too_few(1, count);
-    Standing {
-        refused,
-        runs,
-        count,
-    }
+    standing
+}
+
+// How a question to a held plan begins: refusal 10 where no run stands.
+pub fn standing_runs(held: &Held) -> Result<Numbers<MOST_RUNS>, Refusal>
+    requires { IsHeld held.now }
+    ensures { let rs = standing (marks_in held.now) in result ≡ answered (refusal (too_few 1 (length rs) ∷ [])) rs }
+{
+    let standing = standing_numbers(held);
+    Refusal::too_few(1, standing.len())?;
+    Ok(standing)
 }
 
 // Twice the row sum is taken off the words at a strike, and added at a reinstatement.

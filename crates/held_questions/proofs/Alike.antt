@@ -1,6 +1,7 @@
 -- Two held plans that differ only in entries of struck runs give the same answers, the plan handed back apart (demand 3).
 use Rattle.exact.proofs.Ground.{true, false, Bool, cond, not, ◌&&◌, List, [], ◌∷◌, map, Memᴰ, mem-head, mem-tail, ◌≡◌, ◌∙◌, sym, ap}
-use Rattle.exact.proofs.Ground.{refl, zero-le, ap₂, subst, fun_ext, ℕ, ◌<◌, ◌+◌, ◌*◌, suc, zero, arith, eqb, T, pos, length, get_or, eqb-true}
+use Rattle.exact.proofs.Ground.{refl, zero-le, ap₂, subst, fun_ext, ℕ, ◌<◌, ◌+◌, ◌*◌, suc, zero, arith, eqb, T, length, get_or, eqb-true}
+use Rattle.std.specs.Prelude.{Result, Ok, Err, ℤ}
 use Rattle.exact.specs.Lists.{from, keep, holds}
 use Rattle.exact.proofs.Numbers.{mem-from, from-mem}
 use Rattle.exact.proofs.Tests.{not-true, true-is, both, clash}
@@ -18,12 +19,11 @@ use Rattle.words.specs.Answers.{by_length, zeros, word_list, row_list, rows_by_r
 use Rattle.counts.specs.Counts.{strength, strength_answer}
 use Rattle.set_words.specs.SetWords.{relative_of, set_word_answer}
 use Rattle.projection_tables.specs.Tables.{Rooms, table_in, table_answer, table_rooms}
-use Rattle.set_words.specs.declared.SetWordAnswer.{SetWordAnswer}
 use Rattle.resolution.specs.Resolution.{greatest, resolution, largest_ratio, resolution_answer, generalized_answer}
 use Rattle.resolution.specs.Charts.{chart_of, chart_answer, column_ratio, figure_answer}
-use Rattle.tell.specs.declared.TellAnswer.{TellAnswer}
-use Rattle.tell.specs.Evidence.{tells, most_groups, evidence}
-use Rattle.tell.specs.Answer.{tell_checks, zero_joins, tell_answer}
+use Rattle.tell.specs.declared.Told.{Told}
+use Rattle.tell.specs.Evidence.{most_groups}
+use Rattle.tell.specs.Answer.{tell_checks, told, tell_answer}
 use Rattle.tell.proofs.Shown.{SameEntries, tells-shown, evidence-shown}
 use Rattle.tell.proofs.Asking.{asked-passed}
 use Rattle.compare.specs.Compare.{compare_patterns, pattern_of, compare_answer}
@@ -146,12 +146,11 @@ module _ (levels t u rs : List ℕ) (a : SameShown levels t u rs) where
           (both (eqb (length I) f) (is_set (columns p) I) (true-is fine (not-true fine b))).1
 
       go : (b : Bool) → refuses r ≡ b → (c : Bool) → eqb (length rs) 0 ≡ c →
-          ◌≡◌ {A = SetWordAnswer} (record { refused = r; word = cond b (pos 0) (word_of (level p) (entry p) rs I) })
-          (record { refused = r; word = cond b (pos 0) (word_of (level q) (entry q) rs I) })
+          ◌≡◌ {A = Result ℤ Refusal} (cond b (Err r) (Ok (word_of (level p) (entry p) rs I))) (cond b (Err r) (Ok (word_of (level q) (entry q) rs I)))
       go true e c n = refl
       go false e true n = clash (refuses r) (rw n) e
       go false e false n =
-          ap (λ w. record { refused = r; word = w })
+          ap Ok
           (set-seen (level p) (entry p) (entry q) rs (every_column p) a I (part-mem (set-part (columns p) I (is-set e n))))
 
   -- a column or others that are refused have no answer to show
@@ -173,13 +172,11 @@ module _ (levels t u rs : List ℕ) (a : SameShown levels t u rs) where
           inside k (mem-tail n) l h = h k n
 
       go : (b : Bool) → refuses r ≡ b → (c : Bool) → eqb (length rs) 0 ≡ c →
-          ◌≡◌ {A = TellAnswer}
-          (record { refused = r; tells = cond b false (tells (entry p) i J most_groups rs); joins = cond b zero_joins (evidence p rs i J) })
-          (record { refused = r; tells = cond b false (tells (entry q) i J most_groups rs); joins = cond b zero_joins (evidence q rs i J) })
+          ◌≡◌ {A = Result Told Refusal} (cond b (Err r) (Ok (told p rs i J))) (cond b (Err r) (Ok (told q rs i J)))
       go true e c n = refl
       go false e true n = clash (refuses r) (rw n) e
       go false e false n =
-          ap₂ (λ t j. record { refused = r; tells = t; joins = j })
+          ap₂ (λ t j. Ok (record { tells = t; joins = j }))
           (tells-shown (entry p) (entry q) i J most_groups rs (same e n)) (evidence-shown p q rs i J (same e n))
 
 turns-shown : (k : ℕ) (levels t u rs : List ℕ) → SameShown levels t u rs → in_turn (plan levels t) k rs ≡ in_turn (plan levels u) k rs

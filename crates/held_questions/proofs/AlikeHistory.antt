@@ -4,7 +4,7 @@ use Rattle.exact.proofs.Ground.{true, false, List, [], ◌∷◌, Memᴰ, mem-he
 use Rattle.exact.proofs.Ground.{◌<◌, set, length}
 use lib.Seq.{get_or-set_other}
 use Rattle.rules.specs.Plan.{Plan, columns, entry}
-use Rattle.rules.specs.Refusals.{refusal}
+use Rattle.rules.specs.Refusals.{refusal, answered, refusal_in}
 use Rattle.held.specs.declared.Held.{Held}
 use Rattle.held.specs.Held.{standing, marks_in, standing_in, IsHeld, Call, strikes, reinstates, run_of, stands, call_checks, call_answer}
 use Rattle.held.specs.History.{after}
@@ -24,9 +24,9 @@ module _ {D : List ℕ} {h k : Held} (A : AlikeBut D h k) where
   }
 
   -- a call is refused of both or of neither
-  call-alike : (c : Call) → (call_answer h c).refused ≡ (call_answer k c).refused
+  call-alike : (c : Call) → refusal_in (call_answer h c).answer ≡ refusal_in (call_answer k c).answer
   unfolding call_answer
-  call-alike c = ap (λ marks. refusal (call_checks marks c)) A.marks
+  call-alike c = ap (λ marks. refusal_in (answered (refusal (call_checks marks c)) (tt {0}))) A.marks
 
   -- a call that does not reinstate a struck run leaves it struck
   still-struck : (c : Call) (f : ℕ) → ¬ (reinstates f ≡ c) → Memᴰ f D → ¬ (Memᴰ f (standing (marks_after (marks_in h) c)))

@@ -1,8 +1,10 @@
 -- Worked figures: answers over the runs that stand, from the definitions. The starred ones of document 01 stand in `planner` Starred.
 use Rattle.exact.proofs.Ground.{List, [], ◌∷◌, map, ◌≡◌, refl, ℕ, ◌-◌, pos, ℤ, get_or, take}
+use Rattle.std.specs.Prelude.{Result, Ok, Err}
 use Rattle.exact.specs.Fractions.{smaller_fraction}
 use Rattle.best.specs.Best.{best}
 use Rattle.rules.specs.Plan.{Plan, plan}
+use Rattle.rules.specs.declared.Refusal.{Refusal}
 use Rattle.rules.specs.Refusals.{first_bad_level, first_bad_entry}
 use Rattle.words.specs.Words.{score, word_of, word, row_sum}
 use Rattle.words.specs.Answers.{word_list, row_list, rows_by_run, words_answer, word_answer, row_sums_answer}
@@ -23,19 +25,21 @@ data Question : Type 0 where
 abbrev held_after : Plan → List Call → Held
 held_after p cs = after (open_answer p).held cs
 
--- the refusal's number, then the answer
+-- the refusal's number, or 0 and then the answer
+says : {A : Type 0} → (A → List ℤ) → Result A Refusal → List ℤ
+says numbers (Ok value) = pos 0 ∷ numbers value
+says numbers (Err r) = pos r.number ∷ []
+
 ask : Question → List ℤ
-unfolding open_answer first_bad_level first_bad_entry held_of standing call_answer call_checks remarked word_list word word_of score smaller_fraction
+unfolding says open_answer first_bad_level first_bad_entry held_of standing call_answer call_checks remarked word_list word word_of score smaller_fraction
     row_sum row_list rows_by_run even balanced strength A pattern compare_patterns best advice in_turn words_answer word_answer row_sums_answer strength_answer
     advice_answer turns_answer held_words held_word held_row_sums held_strength held_advice held_turns
-ask (words_of p cs) = let a = (held_words (held_after p cs)).answer in pos a.refused.number ∷ take 2 a.words
-ask (strength_of p cs) = let a = (held_strength (held_after p cs)).answer in pos a.refused.number ∷ pos a.strength ∷ []
-ask (advice_of p cs) = let a = (held_advice (held_after p cs)).answer in pos a.refused.number ∷ pos a.run ∷ []
-ask (one_word p cs j) = let a = (held_word (held_after p cs) j).answer in pos a.refused.number ∷ a.word ∷ []
-ask (row_sums_of p cs j) =
-    let a = (held_row_sums (held_after p cs)).answer in
-    pos a.refused.number ∷ map (λ row. get_or row.sums (j - 1) (pos 0)) (take 3 a.rows)
-ask (turns_of p cs k) = let a = (held_turns (held_after p cs) k).answer in pos a.refused.number ∷ map pos a.runs
+ask (words_of p cs) = says (λ ws. take 2 ws) (held_words (held_after p cs)).answer
+ask (strength_of p cs) = says (λ t. pos t ∷ []) (held_strength (held_after p cs)).answer
+ask (advice_of p cs) = says (λ f. pos f ∷ []) (held_advice (held_after p cs)).answer
+ask (one_word p cs j) = says (λ w. w ∷ []) (held_word (held_after p cs) j).answer
+ask (row_sums_of p cs j) = says (λ rows. map (λ row. get_or row.sums (j - 1) (pos 0)) (take 3 rows)) (held_row_sums (held_after p cs)).answer
+ask (turns_of p cs k) = says (map pos) (held_turns (held_after p cs) k).answer
 
 record Figure : Type 0 where
   question : Question
@@ -61,23 +65,23 @@ refused = plan [] []
 
 figures : List Figure
 figures =
-    is (words_of refused []) (pos 10 ∷ pos 0 ∷ pos 0 ∷ [])
+    is (words_of refused []) (pos 10 ∷ [])
     ∷ is (strength_of half (strikes 0 ∷ [])) (pos 0 ∷ pos 0 ∷ [])
     ∷ is (advice_of listed []) (pos 0 ∷ pos 0 ∷ [])
     -- of two runs either leaves one, and among equals it is the lowest number
     ∷ is (advice_of listed (strikes 0 ∷ [])) (pos 0 ∷ pos 1 ∷ [])
-    ∷ is (advice_of single []) (pos 10 ∷ pos 0 ∷ [])
-    ∷ is (turns_of listed (strikes 0 ∷ []) 1) (pos 0 ∷ pos 1 ∷ pos 0 ∷ pos 0 ∷ [])
-    ∷ is (turns_of listed (strikes 0 ∷ []) 2) (pos 10 ∷ pos 0 ∷ pos 0 ∷ pos 0 ∷ [])
+    ∷ is (advice_of single []) (pos 10 ∷ [])
+    ∷ is (turns_of listed (strikes 0 ∷ []) 1) (pos 0 ∷ pos 1 ∷ [])
+    ∷ is (turns_of listed (strikes 0 ∷ []) 2) (pos 10 ∷ [])
     -- a length above m is 8
     ∷ is (one_word listed (strikes 0 ∷ []) 2) (pos 0 ∷ pos 6 ∷ [])
-    ∷ is (one_word listed (strikes 0 ∷ []) 3) (pos 8 ∷ pos 0 ∷ [])
+    ∷ is (one_word listed (strikes 0 ∷ []) 3) (pos 8 ∷ [])
     -- a struck run holds zero
     ∷ is (row_sums_of listed (strikes 0 ∷ []) 1) (pos 0 ∷ pos 0 ∷ pos 1 ∷ pos 1 ∷ [])
     ∷ is (row_sums_of listed (strikes 0 ∷ []) 2) (pos 0 ∷ pos 0 ∷ pos 3 ∷ pos 3 ∷ [])
     -- on the plan of a refused opening 10 comes ahead of 6 and 8
-    ∷ is (turns_of refused [] 4) (pos 10 ∷ pos 0 ∷ pos 0 ∷ pos 0 ∷ [])
-    ∷ is (one_word refused [] 0) (pos 10 ∷ pos 0 ∷ [])
+    ∷ is (turns_of refused [] 4) (pos 10 ∷ [])
+    ∷ is (one_word refused [] 0) (pos 10 ∷ [])
     ∷ []
 
 standing-figures : map (λ x. ask x.question) figures ≡ map (λ x. x.answer) figures

@@ -6,7 +6,7 @@ use Rattle.exact.specs.Fractions.{zero_fraction, reduced}
 use Rattle.exact.proofs.Lists.{map-cong-in}
 use Rattle.exact.proofs.Sums.{sum-cong-in}
 use Rattle.exact.proofs.Members.{keep-mem}
-use Rattle.rules.specs.Plan.{level, entry}
+use Rattle.rules.specs.Plan.{entry}
 use Rattle.sets.specs.Sets.{choose}
 use Rattle.sets.proofs.Parts.{part-mem, choose-part}
 use Rattle.words.specs.Words.{score, word_of, word, row_sum}

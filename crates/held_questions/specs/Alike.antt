@@ -2,6 +2,7 @@
 use Rattle.std.specs.Prelude.{◌≡◌, Bool, ℕ, ◌<◌, length}
 use mathlib.Core.List.{List, [], ◌∷◌, Memᴰ}
 use Rattle.rules.specs.declared.Refusal.{Refusal}
+use Rattle.rules.specs.Refusals.{refusal_in}
 use Rattle.rules.specs.Plan.{columns, entry}
 use Rattle.projection_tables.specs.Tables.{Rooms}
 use Rattle.held.specs.declared.Held.{Held}
@@ -45,7 +46,7 @@ ReinstateNone D cs = (f : ℕ) → Memᴰ f D → ¬ (Memᴰ (reinstates f) cs)
 -- the refusals of the calls, one after the other
 abbrev pub refusals : Held → List Call → List Refusal
 refusals h [] = []
-refusals h (c ∷ cs) = (call_answer h c).refused ∷ refusals (call_answer h c).held cs
+refusals h (c ∷ cs) = refusal_in (call_answer h c).answer ∷ refusals (call_answer h c).held cs
 
 -- every answer is the same of both, the plan handed back apart
 pub record SameAnswers (h k : Held) : Type 0 where

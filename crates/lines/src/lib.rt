@@ -1,7 +1,7 @@
 // For our own crates: lines of an answer, put into a room one after the other. Each answers the place behind its bytes.
 #![tactic(auto)]
 
-ghost use Rattle.std.specs.Prelude.{◌≡◌, ◌+◌, ◌≤◌, length};
+ghost use Rattle.std.specs.Prelude.{◌≡◌, ◌+◌, ◌≤◌, length, Err};
 ghost use Rattle.exact.specs.Lists.{into};
 ghost use Rattle.text.specs.Bytes.{Put};
 ghost use Rattle.lines.specs.Lines.{field, line_of, refusal_line};
@@ -14,21 +14,20 @@ const SPACE: u8 = 32;
 
 const LINE_FEED: u8 = 10;
 
-// The refusal, and the number of bytes put into the room: those of the refusal's line, or of the answer's lines.
-#[derive(Clone, Copy)]
+// The number of bytes put into the room, and whose they are: those of the answer's lines, or of the refusal's line.
+#[derive(Clone, Copy, Debug, PartialEq, Eq)]
 pub struct Written {
-    pub refused: Refusal,
     pub bytes: usize,
+    pub answer: Result<(), Refusal>,
 }
 
 pub fn write_bytes(bytes: &[u8], room: &mut [u8], at: usize) -> usize
     requires { at + length bytes.now ≤ length room.old }
     ensures { Put bytes.now (length bytes.now) at room.old result room.new }
 {
-    for i in 0..bytes.len() {
-        room[at + i] = bytes[i];
-    }
-    at + bytes.len()
+    let end = at + bytes.len();
+    room[at..end].copy_from_slice(bytes);
+    end
 }
 
 fn write_field(number: u64, room: &mut [u8], at: usize) -> usize
@@ -46,8 +45,8 @@ pub fn write_line(name: &[u8], numbers: &[u64], room: &mut [u8], at: usize) -> u
         Put (line_of name.now xs) (most_of_line name.now xs) at room.old result room.new }
 {
     let mut end = write_bytes(name, room, at);
-    for k in 0..numbers.len() {
-        end = write_field(numbers[k], room, end);
+    for number in numbers {
+        end = write_field(*number, room, end);
     }
     room[end] = LINE_FEED;
     end + 1
@@ -64,11 +63,13 @@ pub fn write_refusal(refused: Refusal, room: &mut [u8]) -> usize
 // An answer that is the one line of its refusal.
 pub fn write_refused(refused: Refusal, room: &mut [u8]) -> Written
     requires { 71 ≤ length room.old }
-    ensures refused { result.refused ≡ refused }
+    ensures answer { result.answer ≡ Err refused }
     ensures bytes { Put (refusal_line refused) 71 0 room.old result.bytes room.new }
 {
-    let bytes = write_refusal(refused, room);
-    Written { refused, bytes }
+    Written {
+        bytes: write_refusal(refused, room),
+        answer: Err(refused),
+    }
 }
 
 // The same for a program that prints a refusal: the number of bytes in front of the room.

@@ -3,7 +3,6 @@
 
 use listing_lines::MOST_BYTES;
 use listing_lines::routines::write_listing;
-use rules::Refusal;
 
 fn main(rt: HostRuntime) {
     let mut output = rt.stdout();
@@ -17,8 +16,7 @@ fn main(rt: HostRuntime) {
     let size = read.size;
     let mut lines = [0u8; MOST_BYTES];
     let bytes = write_listing(&text[..size], &mut lines);
-    let refused: Refusal = console::refusal_of(&text[..size]);
-    if refused.number != 0 {
+    if let Err(refused) = console::check_text(&text[..size]) {
         console::refuse(
             &mut output,
             &mut errors,

@@ -1,12 +1,13 @@
 -- What the listing answers, and its room: by the length of the room.
 use Rattle.exact.proofs.Ground.{List, ◌≡◌, refl, ℕ, ◌≤◌, ◌<◌, length, le-ltb, lt-ltb}
 use Rattle.exact.specs.Lists.{into}
-use Rattle.rules.specs.Refusals.{accepted, plain}
+use Rattle.std.specs.Prelude.{Ok, Err}
+use Rattle.rules.specs.Refusals.{plain}
 use Rattle.listing_lines.specs.Listing.{listing, listing_answer, listing_room}
 
 module _ (text room : List ℕ) where
   -- too small
-  pub small-answer : length room < length (listing text) → listing_answer text room ≡ record { refused = plain 7; bytes = 0 }
+  pub small-answer : length room < length (listing text) → listing_answer text room ≡ Err (plain 7)
   unfolding listing_answer
   small-answer h = rw (lt-ltb (length room) (length (listing text)) h) refl
 
@@ -15,7 +16,7 @@ module _ (text room : List ℕ) where
   small-room h = rw (lt-ltb (length room) (length (listing text)) h) refl
 
   -- large enough
-  pub large-answer : length (listing text) ≤ length room → listing_answer text room ≡ record { refused = accepted; bytes = length (listing text) }
+  pub large-answer : length (listing text) ≤ length room → listing_answer text room ≡ Ok (length (listing text))
   unfolding listing_answer
   large-answer h = rw (le-ltb (length room) (length (listing text)) h) refl
 

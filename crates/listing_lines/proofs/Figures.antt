@@ -2,14 +2,15 @@
 use Rattle.exact.proofs.Ground.{List, [], ◌∷◌, map, ◌++◌, ◌≡◌, ap, refl, ℕ, get_or, replicate}
 use Rattle.exact.specs.Fractions.{gcd, reduced, smaller_fraction}
 use Rattle.best.specs.Best.{best}
-use Rattle.rules.specs.Refusals.{accepted, plain, first_bad_level, first_bad_entry}
+use Rattle.std.specs.Prelude.{Ok, Err}
+use Rattle.rules.specs.Refusals.{plain, first_bad_level, first_bad_entry}
 use Rattle.words.specs.Words.{score, word_of, word}
 use Rattle.counts.specs.Counts.{even, balanced, strength}
 use Rattle.set_words.specs.SetWords.{relative_of}
 use Rattle.compare.specs.Compare.{A, pattern, compare_patterns}
 use Rattle.resolution.specs.Resolution.{resolution, largest_ratio, greatest, root_of}
 use Rattle.advice.specs.Advice.{advice}
-use Rattle.text.specs.Bytes.{bytes, lines}
+use Rattle.text.specs.Bytes.{lines}
 use Rattle.text.specs.Decimal.{decimal}
 use Rattle.text.specs.Text.{malformed_line, plan_of}
 use Rattle.listing_lines.specs.Listing.{word_fraction, count_lines, plan_listing, listing, listing_answer, listing_room}
@@ -63,7 +64,7 @@ example-listed = ap (λ l. get_or l 0 []) listed
 -- its 80 bytes do not fit a room of 79, which stays as it was; in a room of 82 two bytes are left
 pub answered :
     map (λ room. listing_answer example room) (replicate 79 9 ∷ replicate 82 9 ∷ [])
-    ≡ record { refused = plain 7; bytes = 0 } ∷ record { refused = accepted; bytes = 80 } ∷ []
+    ≡ Err (plain 7) ∷ Ok 80 ∷ []
 unfolding listing_answer
 answered = rw example-listed
 

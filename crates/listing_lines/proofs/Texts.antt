@@ -1,12 +1,15 @@
 -- A text is refused by what its reader refuses it by, whose rooms hold every accepted plan.
 use Rattle.exact.proofs.Ground.{List, [], ◌≡◌, ◌∙◌, sym, ap, refl, ℕ, ◌≤◌, ℕ_discrete, dec_le, arith, length, ne_eqb, le-ltb, eq-eqb, lt-ltb}
 use Rattle.rules.specs.Plan.{Plan, most_columns, longest_text, most_entries}
-use Rattle.rules.specs.Refusals.{refusal, plan_checks}
+use Rattle.std.specs.Prelude.{Ok, Err}
+use Rattle.rules.specs.declared.Refusal.{Refusal}
+use Rattle.rules.specs.Refusals.{refusal, answered, plan_checks}
+use Rattle.rules.proofs.Answered.{err-refused, err-is, ok-accepted}
 use Rattle.rules.proofs.Ranges.{unless-refused, unless-accepted}
 use Rattle.plan.proofs.Checks.{passed-good, plan-passed}
-use Rattle.text.specs.declared.ReadAnswer.{ReadAnswer}
+use Rattle.text.specs.declared.Sizes.{Sizes}
 use Rattle.text.specs.Text.{malformed_line, plan_of}
-use Rattle.text.specs.Reader.{read_refusal, answered}
+use Rattle.text.specs.Reader.{read_refusal, sizes}
 use Rattle.text.proofs.Answers.{refused-plan, own-checks, room-enough, long-text, malformed-text, formed-text}
 use Rattle.text.proofs.InFront.{entries-few}
 use Rattle.lines.specs.Lines.{refusal_line}
@@ -36,14 +39,21 @@ same-refusal text = go (dec_le (length text) longest_text) (ℕ_discrete (malfor
 
 -- ---- what was read
 
-module _ (text : List ℕ) {a : ReadAnswer} (e : a ≡ answered (read_refusal text most_columns most_entries) (plan_of text)) where
-  by-reader : a.refused ≡ refusal (listing_checks text)
-  by-reader = ap (λ x. x.refused) e ∙ same-refusal text
+module _ (text : List ℕ) where
+  abbrev own : Refusal
+  own = read_refusal text most_columns most_entries
 
-  pub listing-refused : ¬ (a.refused.number ≡ 0) → refusal_line a.refused ≡ listing text
+  pub listing-refused : {e : Refusal} → Err e ≡ answered own (sizes (plan_of text)) → refusal_line e ≡ listing text
   unfolding listing
-  listing-refused n = rw (← by-reader) (sym (unless-refused a.refused (refusal_line a.refused) (plan_listing (plan_of text)) n))
+  listing-refused w =
+      let r = refusal (listing_checks text) in
+      let n = λ (z : r.number ≡ 0). err-refused own (sizes (plan_of text)) w (ap (λ q. q.number) (same-refusal text) ∙ z) in
+      ap refusal_line (err-is own (sizes (plan_of text)) w ∙ same-refusal text)
+      ∙ sym (unless-refused r (refusal_line r) (plan_listing (plan_of text)) n)
 
-  pub listing-accepted : a.refused.number ≡ 0 → plan_listing (plan_of text) ≡ listing text
+  pub listing-accepted : {a : Sizes} → Ok a ≡ answered own (sizes (plan_of text)) → plan_listing (plan_of text) ≡ listing text
   unfolding listing
-  listing-accepted z = rw (← by-reader) (sym (unless-accepted a.refused (refusal_line a.refused) (plan_listing (plan_of text)) z))
+  listing-accepted w =
+      let r = refusal (listing_checks text) in
+      sym (unless-accepted r (refusal_line r) (plan_listing (plan_of text))
+      (ap (λ q. q.number) (sym (same-refusal text)) ∙ ok-accepted own (sizes (plan_of text)) w))

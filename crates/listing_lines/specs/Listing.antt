@@ -1,19 +1,18 @@
 -- Document 01, "Plan text and the listing": the listing of a plan text, byte for byte.
-use Rattle.std.specs.Prelude.{cond, List, [], ◌∷◌, ◌++◌, ℕ, ◌*◌, ltb, ℤ, pos, nat_abs, length}
+use Rattle.std.specs.Prelude.{cond, List, [], ◌∷◌, ◌++◌, ℕ, ◌*◌, ltb, ℤ, pos, nat_abs, length, Result}
 use Rattle.exact.specs.Lists.{from, each, into}
 use Rattle.exact.specs.Fractions.{reduced}
 use Rattle.exact.specs.declared.fractions.Fraction.{Fraction}
 use Rattle.rules.specs.declared.Refusal.{Refusal}
 use Rattle.rules.specs.Plan.{Plan, columns, runs, level, entry, every_column, every_run}
-use Rattle.rules.specs.Refusals.{Check, refusal, unless, number_or, too_long, malformed, plan_checks, bad_room}
+use Rattle.rules.specs.Refusals.{Check, refusal, answered, unless, number_or, too_long, malformed, plan_checks, bad_room}
 use Rattle.words.specs.Words.{word}
 use Rattle.counts.specs.Counts.{strength}
 use Rattle.resolution.specs.Resolution.{resolution_in, ratio_in, thousandths_of}
 use Rattle.advice.specs.Advice.{advice}
-use Rattle.text.specs.Bytes.{bytes}
+use Rattle.text.specs.Bytes.{bytes, sized}
 use Rattle.text.specs.Text.{malformed_line, plan_of}
 use Rattle.lines.specs.Lines.{line_of, refusal_line}
-use Rattle.listing_lines.specs.declared.ListingAnswer.{ListingAnswer}
 
 -- ---- the lines
 
@@ -82,14 +81,13 @@ listing text = let r = refusal (listing_checks text) in unless r (refusal_line r
 abbrev pub room_refusal : List ℕ → List ℕ → Refusal
 room_refusal text room = refusal (bad_room (length (listing text)) (length room) ∷ [])
 
--- the number of bytes put in, zero in a refusal
-unfoldable pub listing_answer : List ℕ → List ℕ → ListingAnswer
-listing_answer text room = let r = room_refusal text room in record { refused = r; bytes = unless r 0 (length (listing text)) }
+-- the number of bytes put in, or the refusal
+unfoldable pub listing_answer : List ℕ → List ℕ → Result ℕ Refusal
+listing_answer text room = answered (room_refusal text room) (length (listing text))
 
 unfoldable pub listing_room : List ℕ → List ℕ → List ℕ
 listing_room text room = unless (room_refusal text room) room (into (listing text) room)
 
 -- what a C program gets: the number of bytes, or the refusal number negated
 unfoldable pub planner_listing : List ℕ → List ℕ → ℤ
-planner_listing text room =
-    let a = listing_answer text room in number_or a.refused (pos a.bytes)
+planner_listing text room = number_or (sized (listing_answer text room))

@@ -1,12 +1,12 @@
 -- How the listing is put together: its parts are put into a room one after the other.
-use Rattle.std.specs.Prelude.{◌≡◌, cond, List, ℕ, ◌-◌, ◌≤◌, ◌<◌, ℤ, pos, nat_abs, ◌≤ℤ◌, get_or}
+use Rattle.std.specs.Prelude.{◌≡◌, List, ℕ, ◌-◌, ◌≤◌, ◌<◌, ℤ, pos, nat_abs, ◌≤ℤ◌, get_or, Result, Ok, Err}
 use Rattle.exact.specs.Lists.{from, each}
 use Rattle.exact.specs.Fractions.{reduced}
 use Rattle.rules.specs.Plan.{Plan, every_run, most_columns}
-use Rattle.rules.specs.Refusals.{refuses}
+use Rattle.rules.specs.declared.Refusal.{Refusal}
 use Rattle.plan.specs.Good.{Good}
 use Rattle.words.specs.Answers.{word_list}
-use Rattle.resolution.specs.declared.GeneralizedAnswer.{GeneralizedAnswer}
+use Rattle.resolution.specs.declared.GeneralizedResolution.{GeneralizedResolution}
 use Rattle.listing_lines.specs.Listing.{word_line, ratio_lines, no_resolution_line}
 
 -- no listing is longer
@@ -24,8 +24,9 @@ pub record Shown (words : List ℤ) (m pairs : ℕ) : Type 0 where
 abbrev pub word_lines_of : List ℤ → ℕ → ℕ → List ℕ
 word_lines_of words pairs m = each (from 1 m) (λ j. word_line j (reduced (nat_abs (get_or words (j - 1) (pos 0))) pairs))
 
-abbrev pub lines_of_rating : GeneralizedAnswer → List ℕ
-lines_of_rating x = cond (refuses x.refused) no_resolution_line (ratio_lines x.resolution x.ratio x.thousandths)
+abbrev pub lines_of_rating : Result GeneralizedResolution Refusal → List ℕ
+lines_of_rating (Ok x) = ratio_lines x.resolution x.ratio x.thousandths
+lines_of_rating (Err r) = no_resolution_line
 
 -- every run of an accepted plan
 pub record Every (p : Plan) (rs : List ℕ) : Type 0 where

@@ -1,7 +1,8 @@
 // For our own crates: the lines of the listing, put into a room one after the other. Each answers the place behind its bytes.
 ghost use Rattle.std.specs.Prelude.{◌≡◌, ◌+◌, ◌*◌, ◌≤◌, length};
-ghost use Rattle.rules.specs.Plan.{plan};
+ghost use Rattle.rules.specs.Plan.{plan, every_run};
 ghost use Rattle.plan.specs.Good.{Good};
+ghost use Rattle.resolution.specs.Resolution.{generalized_answer};
 ghost use Rattle.text.specs.Bytes.{Put};
 ghost use Rattle.listing_lines.specs.Listing.{
   count_lines,
@@ -19,13 +20,14 @@ ghost use Rattle.listing_lines.specs.Parts.{
 };
 
 use exact::fractions::reduced;
+use exact::listed::Numbers;
 use exact::signed;
 use lines::{write_line, write_refusal};
-use resolution::GeneralizedAnswer;
+use resolution::GeneralizedResolution;
 use resolution::answers::generalized_of;
 use resolution::routines::rate_answer;
 use rules::Refusal;
-use rules::sizes::{MOST_COLUMNS, MOST_ENTRIES};
+use rules::sizes::{MOST_COLUMNS, MOST_ENTRIES, MOST_RUNS};
 
 // A line for each length, the words over the number of pairs, reduced.
 fn write_words(words: &[i64; 24], m: usize, pairs: u64, room: &mut [u8], at: usize) -> usize
@@ -33,23 +35,25 @@ fn write_words(words: &[i64; 24], m: usize, pairs: u64, room: &mut [u8], at: usi
     ensures { Put (word_lines_of words.now pairs m) (68 * m) at room.old result room.new }
 {
     let mut end = at;
-    let mut j = 1;
-    while j <= m {
-        let word = reduced(signed::to_u64(words[j - 1]), pairs);
-        let numbers = [j as u64, word.num, word.den];
+    for (k, word) in words[..m].iter().enumerate() {
+        let word = reduced(signed::to_u64(*word), pairs);
+        let numbers = [k as u64 + 1, word.num, word.den];
         end = write_line(b"word", &numbers, room, end);
-        j += 1;
     }
     end
 }
 
-fn write_resolution(rating: GeneralizedAnswer, room: &mut [u8], at: usize) -> usize
+fn write_resolution(
+    rating: Result<GeneralizedResolution, Refusal>,
+    room: &mut [u8],
+    at: usize,
+) -> usize
     requires { at + 104 ≤ length room.old }
     ensures { Put (lines_of_rating rating) 104 at room.old result room.new }
 {
-    if rating.refused.number != 0 {
+    let Ok(rating) = rating else {
         return write_line(b"resolution none", &[], room, at);
-    }
+    };
     let ratio = rating.ratio;
     let size = [rating.resolution as u64];
     let fraction = [ratio.num, ratio.den];
@@ -90,20 +94,32 @@ fn write_counts(
     write_line(b"strength", &strength, room, worded)
 }
 
+// R, the largest ratio and GR of every run; 11 where no word is above zero. Column 0 is one of every accepted plan.
+fn rated(
+    levels: &[u8],
+    table: &[u8],
+    runs: &[usize],
+    words: &[i64; 24],
+) -> Result<GeneralizedResolution, Refusal>
+    requires { Worded (plan levels.now table.now) runs.now words.now }
+    ensures { let p = plan levels.now table.now in result ≡ generalized_answer p (every_run p) (λ checks. checks) }
+{
+    let rating = rate_answer(levels, table, runs, words, 0)?;
+    Ok(generalized_of(rating))
+}
+
 // The lines of an accepted plan.
 fn write_plan(levels: &[u8], table: &[u8], room: &mut [u8]) -> usize
     requires { Good (plan levels.now table.now) × (most_bytes ≤ length room.old) }
     ensures { Put (plan_listing (plan levels.now table.now)) most_bytes 0 room.old result room.new }
 {
     let words = words::routines::words_of_plan(levels, table);
-    let n = table.len() / levels.len();
-    let every = plan::routines::every_run(n);
-    let runs = &every[..n];
-    let refused = Refusal::accepted();
-    let rating = generalized_of(rate_answer(refused, levels, table, runs, &words, 0));
+    let every = Numbers::<MOST_RUNS>::first(table.len() / levels.len());
+    let runs = every.as_slice();
+    let rating = rated(levels, table, runs, &words);
     let counted = write_counts(levels, table, runs, &words, room);
-    let rated = write_resolution(rating, room, counted);
-    write_advice(levels, table, runs, room, rated)
+    let resolved = write_resolution(rating, room, counted);
+    write_advice(levels, table, runs, room, resolved)
 }
 
 // The whole listing. Rooms for 24 levels and for 256 runs of them hold every accepted plan.
@@ -113,12 +129,11 @@ pub fn write_listing(text: &[u8], room: &mut [u8]) -> usize
 {
     let mut levels = [0u8; MOST_COLUMNS];
     let mut table = [0u8; MOST_ENTRIES];
-    let answer = text::read(text, &mut levels, &mut table);
-    let refused = answer.refused;
-    if refused.number != 0 {
-        return write_refusal(refused, room);
+    match text::read(text, &mut levels, &mut table) {
+        Ok(read) => {
+            let entries = read.columns * read.runs;
+            write_plan(&levels[..read.columns], &table[..entries], room)
+        }
+        Err(refused) => write_refusal(refused, room),
     }
-    let columns = answer.columns;
-    let entries = columns * answer.runs;
-    write_plan(&levels[..columns], &table[..entries], room)
 }

@@ -1,22 +1,21 @@
 -- What `marked_runs` hands to a routine over some runs; and that its answer is that of the held plan whose runs these are.
 use Rattle.exact.proofs.Ground.{true, false, Bool, not, List, [], ◌∷◌, ◌≡◌, ◌∙◌, sym, ap, refl, ap₂, subst, ℕ, ◌≤◌, arith, eqb, T}
-use Rattle.exact.proofs.Ground.{ℕ_discrete, length, take, length-map, length-replicate, length-take-le, ne_eqb, eq-eqb}
-use Rattle.exact.proofs.Rooms.{filled-length, filled-front}
+use Rattle.exact.proofs.Ground.{ℕ_discrete, length, length-map, length-replicate, ne_eqb, eq-eqb}
+use Rattle.std.specs.Prelude.{Ok, Err}
 use Rattle.exact.proofs.Tests.{clash}
-use Rattle.rules.specs.Plan.{Plan, runs, most_runs}
+use Rattle.rules.specs.Plan.{Plan, runs}
 use Rattle.rules.specs.declared.Refusal.{Refusal}
-use Rattle.rules.specs.Refusals.{Check, refusal, unless, or_else, plan_checks, of_held}
+use Rattle.rules.specs.Refusals.{Check, refusal, answered, or_else, plan_checks, of_held}
+use Rattle.rules.proofs.Answered.{err-refused, err-again, ok-accepted, ok-is}
 use Rattle.rules.proofs.Order.{in_turn}
-use Rattle.rules.proofs.Ranges.{unless-refused, unless-accepted, or-neither, or-refused}
+use Rattle.rules.proofs.Ranges.{or-neither, or-refused, or-accepted}
 use Rattle.plan.specs.Good.{Good, Sound}
 use Rattle.plan.proofs.Checks.{passed-good, good-passed}
 use Rattle.held.specs.declared.Held.{Held}
-use Rattle.held.specs.declared.routines.Standing.{Standing}
 use Rattle.held.specs.Held.{IsHeld, held, held_of, standing, marks_in, plan_in, standing_in, of_standing}
 use Rattle.held.proofs.Marks.{plan-in, marks-in}
 use Rattle.held.proofs.Sizes.{sized}
 use Rattle.marked.specs.Marked.{marks_of, marked_runs, miscounted, of_marked}
-use Rattle.marked.specs.Given.{runs_asked, marked_of}
 use Rattle.marked.proofs.Beginnings.{own, begins, begun-handed}
 
 -- where nothing is refused the plan is good, there is a mark for each run, and one stands
@@ -55,73 +54,43 @@ module _ (p : Plan) (marks : List ℕ) (z : (refusal (of_marked p marks [])).num
   pub marked-held : IsHeld (held_of p (marks_of p marks))
   marked-held = held p (marks_of p marks) marked-good marks-long marked-stand
 
-  marked-are : standing_in (held_of p (marks_of p marks)) ≡ marked_runs p marks
-  marked-are = ap standing (marks-in p (marks_of p marks) marks-long)
+  those-standing : standing_in (held_of p (marks_of p marks)) ≡ marked_runs p marks
+  those-standing = ap standing (marks-in p (marks_of p marks) marks-long)
 
   pub marked-sound : Sound p (marked_runs p marks)
   marked-sound =
       subst (λ q. Sound q (marked_runs p marks)) (plan-in p marked-good (marks_of p marks) marks-long)
-      (subst (Sound (plan_in (held_of p (marks_of p marks)))) marked-are (sized marked-held).sound)
+      (subst (Sound (plan_in (held_of p (marks_of p marks)))) those-standing (sized marked-held).sound)
 
--- ---- what is handed over
+-- ---- what a call over these runs may use of how it begins
 
-module _ (p : Plan) (marks : List ℕ) {s : Standing} (e : s ≡ marked_of p marks) where
-  pub marked-refusal : s.refused ≡ refusal (of_marked p marks [])
-  unfolding marked_of
-  marked-refusal = rw e
+module _ (p : Plan) (marks : List ℕ) where
+  -- where it stops, so does the call, whatever its checks
+  pub marked-stops : {e : Refusal} → Err e ≡ answered (refusal (of_marked p marks [])) (marked_runs p marks) →
+      {B : Type 0} (checks : List Check) → T (in_turn (plan_checks p) checks) → (value : B) → Err e ≡ answered (refusal (of_marked p marks checks)) value
+  marked-stops w checks t value =
+      let r = refusal (of_marked p marks []) in
+      let n = err-refused r (marked_runs p marks) w in
+      let same : refusal (of_marked p marks checks) ≡ r = sym (begun-handed p marks checks t) ∙ or-refused r (refusal checks) n in
+      rw same (err-again r (marked_runs p marks) w value)
 
-  pub marked-handed : (checks : List Check) → T (in_turn (plan_checks p) checks) → or_else s.refused (refusal checks) ≡ refusal (of_marked p marks checks)
-  marked-handed checks t = ap (λ r. or_else r (refusal checks)) marked-refusal ∙ begun-handed p marks checks t
+  module _ {y : List ℕ} (w : Ok y ≡ answered (refusal (of_marked p marks [])) (marked_runs p marks)) where
+    begins-well : (refusal (of_marked p marks [])).number ≡ 0
+    begins-well = ok-accepted _ (marked_runs p marks) w
 
-  few : length (runs_asked p marks) ≤ most_runs
-  few = go (ℕ_discrete (refusal (of_marked p marks [])).number 0)
-    where
-      go : Dec ((refusal (of_marked p marks [])).number ≡ 0) → length (runs_asked p marks) ≤ most_runs
-      go (yes z) = rw (unless-accepted (refusal (of_marked p marks [])) [] (marked_runs p marks) z) (marked-sound p marks z).few
-      go (no n) = rw (unless-refused (refusal (of_marked p marks [])) [] (marked_runs p marks) n) (omega arith)
+    -- where it goes on, the runs are those that stand, sound and one or more
+    pub marked-are : y ≡ marked_runs p marks
+    marked-are = ok-is _ (marked_runs p marks) w
 
-  pub marked-fits : s.count ≤ length s.runs
-  unfolding marked_of
-  marked-fits = rw (e, filled-length most_runs 0 (runs_asked p marks) few) few
+    pub runs-sound : Sound p y
+    runs-sound = rw marked-are (marked-sound p marks begins-well)
 
-  pub marked-counted : s.count ≡ length (take s.count s.runs)
-  marked-counted = sym (length-take-le s.count s.runs marked-fits)
+    pub runs-stand : 1 ≤ length y
+    runs-stand = rw marked-are (marked-stand p marks begins-well)
 
-  module _ (z : s.refused.number ≡ 0) where
-    accepts : (refusal (of_marked p marks [])).number ≡ 0
-    accepts = ap (λ r. r.number) (sym marked-refusal) ∙ z
-
-    pub marked-front : take s.count s.runs ≡ marked_runs p marks
-    unfolding marked_of
-    marked-front =
-        rw e (filled-front most_runs 0 (runs_asked p marks)) ∙ unless-accepted (refusal (of_marked p marks [])) [] (marked_runs p marks) accepts
-
-    pub front-sound : Sound p (take s.count s.runs)
-    front-sound = rw marked-front (marked-sound p marks accepts)
-
-    pub front-some : 1 ≤ length (take s.count s.runs)
-    front-some = rw marked-front (marked-stand p marks accepts)
-
-  -- ---- what comes back: the routine answers of the runs handed over, behind the refusal handed over
-
-  module _ (checks : List ℕ → List Check) (turn : T (in_turn (plan_checks p) (checks (marked_runs p marks)))) where
-    abbrev whole : Refusal
-    whole = refusal (of_marked p marks (checks (marked_runs p marks)))
-
-    pub front-answer : {A B : Type 0} (make : Refusal → A → B) (blank : A) (value : List ℕ → A) →
-        let q = or_else s.refused (refusal (checks (take s.count s.runs))) in
-        make q (unless q blank (value (take s.count s.runs))) ≡ make whole (unless whole blank (value (marked_runs p marks)))
-    front-answer make blank value = go (ℕ_discrete s.refused.number 0)
-      where
-        go : Dec (s.refused.number ≡ 0) →
-            let q = or_else s.refused (refusal (checks (take s.count s.runs))) in
-            make q (unless q blank (value (take s.count s.runs))) ≡ make whole (unless whole blank (value (marked_runs p marks)))
-        go (yes z) = rw (marked-front z, marked-handed (checks (marked_runs p marks)) turn)
-        go (no n) =
-            let r = s.refused in
-            let w : whole ≡ r = sym (marked-handed (checks (marked_runs p marks)) turn) ∙ or-refused r (refusal (checks (marked_runs p marks))) n in
-            rw (or-refused r (refusal (checks (take s.count s.runs))) n, w)
-            (ap (make r) (unless-refused r blank (value (take s.count s.runs)) n ∙ sym (unless-refused r blank (value (marked_runs p marks)) n)))
+    -- and the call is refused by its own checks alone
+    pub marked-asks : (checks : List Check) → T (in_turn (plan_checks p) checks) → refusal (of_marked p marks checks) ≡ refusal checks
+    marked-asks checks t = sym (begun-handed p marks checks t) ∙ or-accepted _ (refusal checks) begins-well
 
 -- ---- the same as of a held plan: whatever calls were made, where they leave this plan with these runs standing
 

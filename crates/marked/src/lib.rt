@@ -1,64 +1,44 @@
 // For our own crates: how a call of a C program begins, which hands over a plan and a mark for each run.
 #![tactic(auto)]
 
-ghost use Rattle.std.specs.Prelude.{◌≡◌, not, map, ◌≤◌, eqb, length};
+ghost use Rattle.std.specs.Prelude.{◌≡◌, [], not, map, ◌≤◌, eqb, length};
 ghost use Rattle.rules.specs.Plan.{plan, most_runs};
-ghost use Rattle.held.specs.Given.{standing_of};
-ghost use Rattle.marked.specs.Given.{marked_of};
+ghost use Rattle.rules.specs.Refusals.{refusal, answered};
+ghost use Rattle.held.specs.Held.{standing};
+ghost use Rattle.marked.specs.Marked.{marked_runs, of_marked};
 
-use held::routines::Standing;
+use exact::listed::Numbers;
 use rules::Refusal;
+use rules::sizes::MOST_RUNS;
 
-// The runs whose mark is not 0, in number order; refusal 10 where there is none.
-fn standing_in(marks: &[u8]) -> Standing
+// The runs whose mark is not 0, in number order.
+fn standing_in(marks: &[u8]) -> Numbers<MOST_RUNS>
     requires { length marks.now ≤ most_runs }
-    ensures { result ≡ standing_of (map (λ b. not (eqb b 0)) marks.now) }
+    ensures { result ≡ standing (map (λ b. not (eqb b 0)) marks.now) }
 {
-    let mut runs = [0usize; 256];
-    let mut count = 0;
-    for f in 0..marks.len() {
-        if marks[f] != 0 {
-            runs[count] = f;
-            count += 1;
+    let mut standing = Numbers::new();
+    for (f, mark) in marks.iter().enumerate() {
+        if *mark != 0 {
+            standing.push(f);
         }
     }
-    let refused = Refusal::too_few(1, count);
-    Standing {
-        refused,
-        runs,
-        count,
-    }
+    standing
 }
 
-// The refusal that the call begins with, and the runs that stand, none in a refusal. Without a mark all runs stand.
-#[tactic(auto, using(crate::proofs::Beginnings::eight_marked))]
-pub fn marked_runs(levels: &[u8], table: &[u8], marks: &[u8]) -> Standing
-    ensures { result ≡ marked_of (plan levels.now table.now) marks.now }
+// How the call begins, and the runs that stand. Without a mark all runs stand.
+pub fn marked_runs(levels: &[u8], table: &[u8], marks: &[u8]) -> Result<Numbers<MOST_RUNS>, Refusal>
+    ensures { let p = plan levels.now table.now in
+        result ≡ answered (refusal (of_marked p marks.now [])) (marked_runs p marks.now) }
 {
-    let checked = plan::routines::checked_runs(levels, table);
-    let refused = checked.refused;
-    let runs = checked.runs;
-    let count = checked.count;
-    if refused.number != 0 {
-        return Standing {
-            refused,
-            runs,
-            count,
-        };
+    let runs = plan::routines::checked_runs(levels, table)?;
+    if marks.is_empty() {
+        return Ok(runs);
     }
-    if marks.len() == 0 {
-        return Standing {
-            refused,
-            runs,
-            count,
-        };
-    }
+    let count = runs.len();
     if marks.len() != count {
-        return Standing {
-            refused: Refusal::plain(8),
-            runs: [0; 256],
-            count: 0,
-        };
+        return Err(Refusal::plain(8));
     }
-    standing_in(marks)
+    let standing = standing_in(marks);
+    Refusal::too_few(1, standing.len())?;
+    Ok(standing)
 }

@@ -1,13 +1,13 @@
 -- The loops that make a set of the one before it: the search for the column to raise, from behind, and the row written from there on.
-use Rattle.exact.proofs.Ground.{true, false, Bool, cond, ◌&&◌, List, [], ◌∷◌, map, ◌++◌, append_assoc, append-nil, ◌≡◌, ◌∙◌, sym, ap, refl, subst, ℕ}
+use Rattle.exact.proofs.Ground.{true, false, Bool, cond, ◌&&◌, List, [], ◌∷◌, map, ◌++◌, append_assoc, ◌≡◌, ◌∙◌, sym, ap, refl, subst, ℕ}
 use Rattle.exact.proofs.Ground.{◌≤◌, ◌<◌, ◌-◌, ◌+◌, suc, zero, add-one, arith, eqb, T, length, get_or, take, drop, set, length-append, length-map}
-use Rattle.exact.proofs.Ground.{length-drop, take-append-drop, length-take-le, take_at, drop-cons, drop-length, get_or-take, ne_eqb, eq-eqb}
+use Rattle.exact.proofs.Ground.{length-drop, length-take-le, take_at, drop-cons, drop-length, get_or-take, ne_eqb, eq-eqb}
 use native.Mathlib.Nat.{sub-zero}
-use lib.Seq.{take-take}
+use lib.Seq.{take-take, drop-drop}
+use borrow.Rule.Slice.PartMut.{put_mid}
 use Rattle.exact.specs.Lists.{from, into}
-use Rattle.exact.proofs.Numbers.{length_from, from-snoc, mem-from}
+use Rattle.exact.proofs.Numbers.{length_from, mem-from}
 use Rattle.exact.proofs.Members.{get_or-mem}
-use Rattle.exact.proofs.Rooms.{store-next}
 use Rattle.rules.specs.Refusals.{is_set}
 use Rattle.sets.specs.Sets.{binom, set_at}
 use Rattle.sets.proofs.Among.{chosen, chosen-places}
@@ -61,28 +61,11 @@ last_none m I p e = rw (e, drop-length)
 
 -- ---- a row of numbers, written from place p on
 
-abbrev pub rowed : List ℕ → ℕ → ℕ → ℕ → List ℕ
-rowed d p a i = (take p d ++ from a (i - p)) ++ drop i d
-
-module _ (d : List ℕ) (p a i : ℕ) (l : p ≤ i) (h : i ≤ length d) where
-  pub rowed-long : length (take p d ++ from a (i - p)) ≡ i
-  rowed-long = simp (length-append, length_from) (omega (arith, length-take-le p d (omega arith)))
-
-  pub rowed-next : i < length d → set (rowed d p a i) i (a + (i - p)) ≡ rowed d p a (i + 1)
-  rowed-next k =
-      let e : i - p + 1 ≡ i + 1 - p = omega arith in
-      store-next (take p d ++ from a (i - p)) d i 0 (a + (i - p)) rowed-long k
-      ∙ ap (λ l. l ++ drop (i + 1) d)
-      (append_assoc (take p d) (from a (i - p)) ((a + (i - p)) ∷ [])
-      ∙ ap (λ l. take p d ++ l) (sym (from-snoc a (i - p)) ∙ ap (from a) e))
-
-  pub rowed-all : (J : List ℕ) → J ≡ take p d ++ from a (i - p) → rowed d p a i ≡ into J d
-  rowed-all J e = rw (e, rowed-long)
-
-pub rowed-start : (d : List ℕ) (p a : ℕ) → d ≡ rowed d p a p
-rowed-start d p a =
-    let e : p - p ≡ 0 = omega arith in
-    sym (ap (λ n. (take p d ++ from a n) ++ drop p d) e ∙ ap (λ l. l ++ drop p d) (append-nil (take p d)) ∙ take-append-drop p d)
+pub put_row : (S : List ℕ) (p f a : ℕ) → p ≤ f → f ≤ length S → {part I : List ℕ} → part ≡ from a (f - p) → I ≡ take p S ++ from a (f - p) →
+    put_mid p (f - p) S part ≡ into I S
+put_row S p f a h k x y =
+    let long : length (take p S ++ from a (f - p)) ≡ p + (f - p) = simp (length-append, length_from) (omega (arith, length-take-le p S (omega arith))) in
+    rw (x, y, long, drop-drop (f - p) p S) (sym (append_assoc (take p S) (from a (f - p)) _))
 
 -- ---- a set in the front of a room
 

@@ -1,13 +1,10 @@
 // Reads plan text and writes what stands out in the plan: its sizes, the levels that occur in no run, and the runs made before.
 #![tactic(auto)]
 
-use lines::{line, refusal_line};
 use rules::Refusal;
 use rules::sizes::{MOST_COLUMNS, MOST_ENTRIES};
 use std::io;
 use std::io::Write;
-
-mod lines;
 
 // The levels of a column, below its number of them, that occur in no run.
 fn show_absent<W: Write>(
@@ -18,17 +15,16 @@ fn show_absent<W: Write>(
     count: u8,
 ) -> io::Result<()> {
     for level in 0..count {
-        let answer = survey::level_occurs(levels, table, column, level);
-        if !answer.occurs {
-            line(output, "absent", column as u64, u64::from(level))?;
+        if survey::level_occurs(levels, table, column, level) == Ok(false) {
+            writeln!(output, "absent {column} {level}")?;
         }
     }
     Ok(())
 }
 
 fn show_columns<W: Write>(output: &mut W, levels: &[u8], table: &[u8]) -> io::Result<()> {
-    for column in 0..levels.len() {
-        show_absent(output, levels, table, column, levels[column])?;
+    for (column, count) in levels.iter().enumerate() {
+        show_absent(output, levels, table, column, *count)?;
     }
     Ok(())
 }
@@ -40,16 +36,18 @@ fn show_repeated<W: Write>(
     runs: usize,
 ) -> io::Result<()> {
     for run in 0..runs {
-        let answer = survey::first_alike(levels, table, run);
-        if answer.run < run {
-            line(output, "repeated", run as u64, answer.run as u64)?;
+        if let Ok(first) = survey::first_alike(levels, table, run) {
+            if first < run {
+                writeln!(output, "repeated {run} {first}")?;
+            }
         }
     }
     Ok(())
 }
 
 fn show_plan<W: Write>(output: &mut W, levels: &[u8], table: &[u8], runs: usize) -> io::Result<()> {
-    line(output, "plan", runs as u64, levels.len() as u64)?;
+    let columns = levels.len();
+    writeln!(output, "plan {runs} {columns}")?;
     show_columns(output, levels, table)?;
     show_repeated(output, levels, table, runs)
 }
@@ -60,7 +58,12 @@ fn show_refusal<W: Write, E: Write>(
     refused: Refusal,
     text: &[u8],
 ) -> io::Result<()> {
-    refusal_line(output, refused)?;
+    let Refusal {
+        number,
+        first,
+        second,
+    } = refused;
+    writeln!(output, "refused {number} {first} {second}")?;
     console::say_refusal(errors, refused, text);
     Ok(())
 }
@@ -68,14 +71,18 @@ fn show_refusal<W: Write, E: Write>(
 fn show_text<W: Write, E: Write>(output: &mut W, errors: &mut E, text: &[u8]) -> io::Result<()> {
     let mut levels = [0u8; MOST_COLUMNS];
     let mut table = [0u8; MOST_ENTRIES];
-    let answer = text::read(text, &mut levels, &mut table);
-    let refused = answer.refused;
-    if refused.number != 0 {
-        return show_refusal(output, errors, refused, text);
+    match text::read(text, &mut levels, &mut table) {
+        Ok(read) => {
+            let entries = read.runs * read.columns;
+            show_plan(
+                output,
+                &levels[..read.columns],
+                &table[..entries],
+                read.runs,
+            )
+        }
+        Err(refused) => show_refusal(output, errors, refused, text),
     }
-    let m = answer.columns;
-    let entries = answer.runs * m;
-    show_plan(output, &levels[..m], &table[..entries], answer.runs)
 }
 
 fn main(rt: HostRuntime) {

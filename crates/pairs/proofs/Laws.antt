@@ -4,16 +4,14 @@ use Rattle.exact.proofs.Ground.{negsuc, length}
 use Rattle.exact.specs.Lists.{sum, prod}
 use Rattle.exact.proofs.Ring.{ring}
 use Rattle.exact.proofs.Sums.{sum-cong, sum-cong-in, prod-cong, sum-swap, sum-+, sum-at, sum-0}
-use Rattle.exact.proofs.Tests.{is_true, is_false, iff-eq}
+use Rattle.exact.proofs.Tests.{is_true, is_false}
+pub use Rattle.exact.proofs.Tests.{eqb-sym}
 use Rattle.sets.specs.Sets.{choose}
 use Rattle.sets.proofs.Choose.{esp, sum-choose, esp-cong-in, esp-above}
 use Rattle.pairs.specs.Given.{once}
 use Rattle.pairs.specs.Words.{score, score_at, word_of, word, pair_sum, row_sum, diagonal}
 
 -- ---- the score of two entries
-
-pub eqb-sym : (a b : ℕ) → eqb a b ≡ eqb b a
-eqb-sym a b = iff-eq (eqb a b) (eqb b a) (λ t. rw (eqb→eq a b t) (eqb_refl b)) (λ t. rw (eqb→eq b a t) (eqb_refl a))
 
 pub score-sym : (s a b : ℕ) → score s a b ≡ score s b a
 unfolding score

@@ -1,6 +1,7 @@
 pub mod Laws
 pub mod Bound
 pub mod Rows
+pub mod Adding
 pub mod Columns
 pub mod Totals
 pub mod OfPlan

@@ -1,15 +1,16 @@
 -- Sums over each pair of different runs once, and the turns of a loop from the last run down.
-use Rattle.exact.proofs.Ground.{List, [], ◌∷◌, Memᴰ, mem-head, mem-tail, ◌≡◌, ◌∙◌, sym, ap, refl, ℕ, ◌≤◌, ◌<◌, ◌-◌, ◌*◌, ◌^◌}
-use Rattle.exact.proofs.Ground.{zero-le, le_trans, mul-le-mul_right, arith, pos, ℤ, nat_abs, ◌*ℤ◌, ◌+ℤ◌, +ℤ_comm, length, get_or, drop, length-drop}
+use Rattle.exact.proofs.Ground.{List, [], ◌∷◌, Memᴰ, mem-head, mem-tail, ◌≡◌, ◌∙◌, sym, ap, refl, ℕ, ◌≤◌, ◌<◌, ◌-◌, ◌+◌, ◌*◌, ◌^◌}
+use Rattle.exact.proofs.Ground.{zero-le, le_trans, mul-le-mul_right, arith, ℤ, nat_abs, +ℤ_comm, length, get_or, drop}
+use Rattle.exact.proofs.Ground.{length-drop, drop-length}
 use Rattle.exact.specs.Lists.{sum}
 use Rattle.exact.proofs.Lists.{drop-back, mem-drop}
-use Rattle.exact.proofs.Numbers.{map-from-cong}
+use Rattle.exact.proofs.Numbers.{length_from, map-from-cong}
 use Rattle.exact.proofs.Order.{nat_abs-+}
-use Rattle.exact.proofs.Sums.{sum-cong, sum-const}
-use Rattle.rules.specs.Plan.{Plan, level, entry, every_column, most_runs, highest_product}
+use Rattle.rules.specs.Plan.{Plan, runs, every_run, most_runs, highest_product}
 use Rattle.plan.specs.Good.{Sound}
+use Rattle.plan.proofs.Sound.{run_at}
 use Rattle.pairs.specs.Given.{Row, added, once, once_list}
-use Rattle.pairs.specs.Lists.{by_length, zeros, row_list}
+use Rattle.pairs.specs.Lists.{zeros, row_list}
 use Rattle.pairs.proofs.Bound.{sum_bound}
 use Rattle.pairs.proofs.Totals.{by-length-row, added-by-length, totals}
 use Rattle.pairs.proofs.OfPlan.{of_pair, row-totals, sound-run, pair_small}
@@ -29,6 +30,18 @@ module _ (p : Plan) where
       let so_far : ℕ → ℤ = λ j. once (λ f g. of_pair p f j g) (drop k rs) in
       rw (drop-back rs k 0 h l, ← (row-totals p (drop k rs) f))
       (added-by-length so_far pairs ∙ map-from-cong 1 24 (λ j. +ℤ_comm (so_far j) (pairs j)))
+
+  -- of all runs, each by its number: before the first turn, and a turn
+  pub once-begins : zeros ≡ once_list p (drop (runs p) (every_run p))
+  once-begins = sym (ap (once_list p) (ap (λ n. drop n (every_run p)) (sym (length_from 0 (runs p))) ∙ drop-length (every_run p)) ∙ once-none)
+
+  pub once_next : (f : ℕ) → 0 < f → f ≤ runs p →
+      added (once_list p (drop f (every_run p))) (row_list p (drop (f - 1 + 1) (every_run p)) (f - 1)) ≡ once_list p (drop (f - 1) (every_run p))
+  once_next f h l =
+      let rs = every_run p in let e : f - 1 + 1 ≡ f = omega arith in
+      ap (added (once_list p (drop f rs)))
+      (ap (λ k. row_list p (drop k rs) (f - 1)) e ∙ ap (row_list p (drop f rs)) (sym (run_at p (f - 1) (omega arith))))
+      ∙ once-turn rs f h (omega (arith, length_from 0 (runs p)))
 
 -- ---- how large a sum over each pair of different members is
 once-bound : {A : Type 0} (k : A → A → ℤ) (xs : List A) (B c : ℕ) → length xs ≤ c →

@@ -1,5 +1,5 @@
 -- Rows of sums by word length, over plain lists: one column more, in place.
-use Rattle.exact.proofs.Ground.{List, ◌++◌, ◌≡◌, ◌∙◌, sym, ap, refl, ℕ, ◌≤◌, ◌<◌, ◌-◌, ◌+◌, suc, zero-add, add-one, arith, pos, ℤ, ◌*ℤ◌, ◌+ℤ◌}
+use Rattle.exact.proofs.Ground.{List, ◌++◌, ◌≡◌, ◌∙◌, sym, ap, refl, ℕ, ◌≤◌, ◌<◌, ◌+◌, suc, zero-add, add-one, arith, pos, ℤ, ◌*ℤ◌, ◌+ℤ◌}
 use Rattle.exact.proofs.Ground.{*ℤ-zero, length, get_or, take, drop, set, length-drop, get_or-append, take-append-drop, length-take-le, take-suc}
 use Rattle.exact.proofs.Ground.{drop-cons, get_or-take, get_or-drop, ext_get_or, append_snoc}
 use lib.Seq.{set_at}

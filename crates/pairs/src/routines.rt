@@ -49,8 +49,8 @@ pub fn add_to(total: &mut [i64; 24], more: &[i64])
     requires { Row (2 ^ 61) total.old × Part (2 ^ 61) more.now }
     ensures { total.new ≡ added total.old more.now }
 {
-    for j in 0..more.len() {
-        total[j] = signed::add(total[j], more[j]);
+    for (j, sum) in more.iter().enumerate() {
+        total[j] = signed::add(total[j], *sum);
     }
 }
 
@@ -62,8 +62,8 @@ pub fn pair(levels: &[u8], table: &[u8], f: usize, g: usize) -> [i64; 25]
     let m = levels.len();
     let mut sums = [0i64; 25];
     sums[0] = 1;
-    for i in 0..m {
-        let x = score(levels[i], table[f * m + i], table[g * m + i]);
+    for (i, level) in levels.iter().enumerate() {
+        let x = score(*level, table[f * m + i], table[g * m + i]);
         extend(&mut sums, x, i);
     }
     sums
@@ -75,8 +75,8 @@ pub fn row(levels: &[u8], table: &[u8], runs: &[usize], f: usize) -> [i64; 24]
     ensures { result ≡ row_list (plan levels.now table.now) runs.now f }
 {
     let mut total = [0i64; 24];
-    for k in 0..runs.len() {
-        let sums = pair(levels, table, f, runs[k]);
+    for g in runs {
+        let sums = pair(levels, table, f, *g);
         add_to(&mut total, &sums[1..]);
     }
     total
@@ -101,9 +101,7 @@ pub fn once(levels: &[u8], table: &[u8]) -> [i64; 24]
     ensures { let p = plan levels.now table.now in result ≡ once_list p (every_run p) }
 {
     let mut total = [0i64; 24];
-    let mut f = table.len() / levels.len();
-    while 0 < f {
-        f -= 1;
+    for f in (0..table.len() / levels.len()).rev() {
         add_later(&mut total, levels, table, f);
     }
     total
@@ -116,9 +114,8 @@ pub fn diagonal(levels: &[u8]) -> [i64; 24]
 {
     let mut sums = [0i64; 25];
     sums[0] = 1;
-    for i in 0..levels.len() {
-        let x = score(levels[i], 0, 0);
-        extend(&mut sums, x, i);
+    for (i, level) in levels.iter().enumerate() {
+        extend(&mut sums, score(*level, 0, 0), i);
     }
     let mut longer = [0i64; 24];
     add_to(&mut longer, &sums[1..]);

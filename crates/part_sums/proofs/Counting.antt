@@ -6,7 +6,6 @@ use mathlib.Core.Logic.{dite}
 use lib.Seq.{get_or-set_same, get_or-set_other}
 use Rattle.exact.specs.Lists.{from, sum}
 use Rattle.exact.proofs.Lists.{count_none}
-use Rattle.exact.proofs.Members.{get_or-mem}
 use Rattle.exact.proofs.Numbers.{map-from-at, from-add, mem-from, from-mem, length_from}
 use Rattle.exact.proofs.Rooms.{length-numbered}
 use Rattle.exact.proofs.Sums.{sum-++, sum-0, sum-cong-in}

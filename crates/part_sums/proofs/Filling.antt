@@ -1,5 +1,5 @@
 -- The room holds U of every place that was filled; and a step of the walk that fills it.
-use Rattle.exact.proofs.Ground.{List, [], ◌∷◌, map, ◌++◌, Memᴰ, mem-tail, mem-append_cases, mem-of_singleton, ⊎_elim, ◌≡◌, ◌∙◌, sym}
+use Rattle.exact.proofs.Ground.{List, [], ◌∷◌, map, ◌++◌, Memᴰ, mem-append_cases, mem-of_singleton, ⊎_elim, ◌≡◌, ◌∙◌, sym}
 use Rattle.exact.proofs.Ground.{ap, refl, subst, ℕ, ◌≤◌, ◌<◌, ◌-◌, ◌+◌, ◌*◌, suc, zero, le_trans, arith, pos, ℤ, nat_abs, ◌*ℤ◌, length, get_or, drop, set}
 use Rattle.exact.proofs.Ground.{length-append, length-map, length-set, ℕ_discrete, dec_lt, suc-mul, mem-of_map, zero-add, le_refl}
 use mathlib.Core.Logic.{dite}

@@ -1,5 +1,5 @@
 -- The room, once filled over all columns, holds T of every set of up to k of them; so W(I) of k + 1 columns is the sum over it.
-use Rattle.exact.proofs.Ground.{true, List, [], ◌∷◌, map, Memᴰ, mem-not_nil, ◌≡◌, ◌∙◌, sym, ap, refl, subst, ℕ, ◌≤◌, ◌<◌, ◌-◌, ◌+◌, ◌*◌, suc, zero}
+use Rattle.exact.proofs.Ground.{true, List, [], ◌∷◌, Memᴰ, mem-not_nil, ◌≡◌, ◌∙◌, sym, ap, refl, subst, ℕ, ◌≤◌, ◌<◌, ◌-◌, ◌+◌, suc, zero}
 use Rattle.exact.proofs.Ground.{le_trans, arith, pos, ℤ, nat_abs, ◌*ℤ◌, length, get_or, set, take, replicate, length-map, length-set, mem-of_map}
 use Rattle.exact.proofs.Ground.{Bool, false, cond, eqb, ◌++◌, ◌/◌, ◌%◌, length-append}
 use native.Mathlib.Nat.{mod-lt}
@@ -10,8 +10,7 @@ use Rattle.exact.proofs.Numbers.{mem-from, length_from}
 use Rattle.exact.proofs.Ring.{ring}
 use Rattle.rules.specs.Plan.{Plan, columns, level, entry}
 use Rattle.plan.specs.Good.{Sound}
-use Rattle.sets.specs.Sets.{choose}
-use Rattle.sets.proofs.Parts.{Part, part-mem, part-nil, part-trans, part_length, choose-part}
+use Rattle.sets.proofs.Parts.{Part, part-mem, part-trans, part_length, choose-part}
 use Rattle.words.specs.Words.{word_of}
 use Rattle.counts.specs.Numbered.{product_of, number_of}
 use Rattle.counts.proofs.Turns.{number-one}
@@ -19,8 +18,8 @@ use Rattle.parts.specs.Parts.{squares_of, squared_counts}
 use Rattle.parts.proofs.FromCounts.{combinations-few}
 use Rattle.parts.proofs.OnlyWord.{only-numbers}
 use Rattle.part_sums.specs.Counters.{Numbers}
-use Rattle.part_sums.specs.Stored.{numbers_in, stored_of, stored_at, place_in, places, columns_at, filled_by, over_stored}
-use Rattle.part_sums.specs.Given.{highest_t, Inside, Counting, Begun, Filling, Kept, Readable, Worded}
+use Rattle.part_sums.specs.Stored.{numbers_in, stored_of, stored_at, place_in, columns_at, filled_by, over_stored}
+use Rattle.part_sums.specs.Given.{highest_t, Inside, Counting, Filling, Kept, Readable, Worded}
 use Rattle.part_sums.proofs.Places.{Low, place-bound, places-mono, columns-place}
 use Rattle.part_sums.proofs.Filling.{filled-long, filled_keeps, filled-holds, set_keeps, stored-small, stored_is, snoc-mem}
 use Rattle.part_sums.proofs.Stored.{stored, word-stored}

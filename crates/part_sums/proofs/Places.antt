@@ -1,6 +1,6 @@
 -- The place of a set: how large it is, one column more, and the set at a place.
-use Rattle.exact.proofs.Ground.{cond, List, [], ◌∷◌, ◌++◌, Memᴰ, mem-head, mem-tail, mem-append_left, mem-append_right, ◌≡◌, ◌∙◌}
-use Rattle.exact.proofs.Ground.{sym, ap, refl, subst, ℕ, ◌≤◌, ◌<◌, ◌-◌, ◌+◌, ◌*◌, ◌/◌, ◌%◌, suc, zero, le_trans, le_refl, arith, length, length-append, ne_eqb}
+use Rattle.exact.proofs.Ground.{List, [], ◌∷◌, ◌++◌, Memᴰ, mem-head, mem-tail, mem-append_left, mem-append_right, ◌≡◌, ◌∙◌}
+use Rattle.exact.proofs.Ground.{ap, refl, subst, ℕ, ◌≤◌, ◌<◌, ◌-◌, ◌+◌, ◌*◌, suc, zero, le_trans, le_refl, arith, length, length-append, ne_eqb}
 use lib.Arith.{digits_div, digits_mod}
 use Rattle.exact.proofs.Lists.{grown}
 use Rattle.exact.proofs.Numbers.{mul-below}

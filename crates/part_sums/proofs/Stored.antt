@@ -1,13 +1,13 @@
 -- The alternating sum over the parts, from what the room holds, is W(I).
-use Rattle.exact.proofs.Ground.{Bool, true, false, cond, List, [], ◌∷◌, map, ◌≡◌, ◌∙◌, sym, ap, refl, ap₂, subst, ℕ, ◌≤◌, ◌<◌, ◌-◌, ◌+◌, ◌*◌, suc, zero}
-use Rattle.exact.proofs.Ground.{le_trans, arith, pos, ℤ, nat_abs, ◌*ℤ◌, ◌+ℤ◌, ◌-ℤ◌, negsuc, neg_ℤ, +ℤ_idr, length, get_or, drop}
+use Rattle.exact.proofs.Ground.{Bool, true, false, cond, List, [], ◌∷◌, ◌≡◌, ◌∙◌, sym, ap, refl, ap₂, ℕ, ◌≤◌, ◌<◌, ◌-◌, ◌+◌, ◌*◌, suc, zero}
+use Rattle.exact.proofs.Ground.{le_trans, arith, pos, ℤ, nat_abs, ◌*ℤ◌, ◌+ℤ◌, ◌-ℤ◌, negsuc, neg_ℤ, length, get_or, drop}
 use native.Mathlib.Nat.{suc-sub-suc}
 use Rattle.exact.specs.Lists.{sum, prod}
 use Rattle.exact.proofs.Ring.{ring}
 use Rattle.exact.proofs.Order.{nat_abs--}
 use Rattle.exact.proofs.Sums.{sum-cong, sum-cong-in, sum-*}
 use Rattle.sets.specs.Sets.{subsets}
-use Rattle.sets.proofs.Parts.{Part, none, skip, keep, part_length, sum-parts, subsets-part, part-nil}
+use Rattle.sets.proofs.Parts.{Part, none, skip, keep, part_length, sum-parts, subsets-part}
 use Rattle.words.specs.Words.{word_of}
 use Rattle.words.specs.Entries.{AllBelow}
 use Rattle.parts.specs.Parts.{sign, squared_counts, from_combinations}

@@ -15,8 +15,8 @@ fn count_one(numbers: &[u16], k: usize, counters: &mut [u16])
     requires counters_value { counters.old ≡ counters_of (length counters.old) (drop (k + 1) numbers.now) }
     ensures { counters.new ≡ counters_of (length counters.old) (drop k numbers.now) }
 {
-    let number = numbers[k] as usize;
-    counters[number] = counters[number] + 1;
+    let number = usize::from(numbers[k]);
+    counters[number] += 1;
 }
 
 // Counts the first of the numbers, so many, from the last of them down.
@@ -25,9 +25,7 @@ fn tally_rest(numbers: &[u16], places: usize, counters: &mut [u16])
     requires counters_value { counters.old ≡ counters_of (length counters.old) (drop places numbers.now) }
     ensures { counters.new ≡ counters_of (length counters.old) numbers.now }
 {
-    let mut k = places;
-    while 0 < k {
-        k -= 1;
+    for k in (0..places).rev() {
         count_one(numbers, k, counters);
     }
 }
@@ -56,9 +54,9 @@ fn gather(places: &[u16], counters: &mut [u16]) -> u64
     ensures counters { counters.new ≡ counters_of (length counters.old) [] }
 {
     let mut total: u64 = 0;
-    for k in 0..places.len() {
-        let place = places[k] as usize;
-        let count = counters[place] as u64;
+    for place in places {
+        let place = usize::from(*place);
+        let count = u64::from(counters[place]);
         total += count * count;
         counters[place] = 0;
     }

@@ -76,7 +76,7 @@ fn fill(
     let n = runs.len();
     let i = rest[0];
     let taken = longer(numbers, levels[i], &digits[i * n..]);
-    let more = product * (levels[i] as usize);
+    let more = product * usize::from(levels[i]);
     let place = at * base + i + 1;
     let counted = squares(&taken[..n], more, all, counters);
     room[place] = signed::mul(signed::of_size(more), counted);

@@ -6,15 +6,15 @@ ghost use Rattle.plan.specs.Good.{Sound};
 ghost use Rattle.counts.specs.Numbered.{Columns};
 ghost use Rattle.parts.specs.Parts.{turned};
 
-use parts::turn_column;
+use parts::turned;
 
 // The numbers below 256.
 pub fn every_number() -> [u16; 256]
     ensures { result ≡ from 0 most_runs }
 {
     let mut room = [0u16; 256];
-    for k in 0..256 {
-        room[k] = k as u16;
+    for (k, number) in room.iter_mut().enumerate() {
+        *number = k as u16;
     }
     room
 }
@@ -26,10 +26,5 @@ pub fn entries(levels: &[u8], table: &[u8], runs: &[usize], columns: &[usize]) -
     ensures { let p = plan levels.now table.now in
         result ≡ filled_to 6144 0 (turned (entry p) runs.now columns.now) }
 {
-    let n = runs.len();
-    let mut room = [0u8; 6144];
-    for t in 0..columns.len() {
-        turn_column(levels, table, runs, columns[t], t * n, &mut room);
-    }
-    room
+    turned(levels, table, runs, columns)
 }

@@ -1,13 +1,13 @@
 -- Columns of which the runs have no word but that of all of them, as every set of R columns is: W(I) is the product of the levels times
 -- the squared counts, less n²; it is at most n²(s - 1) for each level s; and there are at most 16 combinations a run.
 use Rattle.exact.proofs.Ground.{List, [], ◌∷◌, map, ◌++◌, Memᴰ, mem-head, mem-tail, mem-not_nil, ◌≡◌, ◌∙◌, sym, ap, refl}
-use Rattle.exact.proofs.Ground.{subst, ℕ, ◌≤◌, ◌<◌, ◌-◌, ◌+◌, ◌*◌, ◌+ℤ◌, +ℤ_idr, dec_le, le_trans, mul-le-mul, arith, pos, ℤ, ◌*ℤ◌, ◌-ℤ◌, length, ◌≤ℤ◌, ne_eqb}
+use Rattle.exact.proofs.Ground.{subst, ℕ, ◌≤◌, ◌<◌, ◌-◌, ◌+◌, ◌*◌, ◌+ℤ◌, +ℤ_idr, dec_le, mul-le-mul, arith, pos, ℤ, ◌*ℤ◌, ◌-ℤ◌, length, ◌≤ℤ◌, ne_eqb}
 use lib.IntN.{+ℤ-neg_ℤ_cancel}
 use Rattle.exact.specs.Lists.{from, sum, prod}
 use Rattle.exact.proofs.Numbers.{mem-from, from-add}
 use Rattle.exact.proofs.Sums.{sum-cong, sum-cong-in, sum-0, sum-map, sum-++}
 use Rattle.exact.proofs.Tests.{false-is}
-use Rattle.rules.specs.Plan.{Plan, level, entry, most_runs, highest_level}
+use Rattle.rules.specs.Plan.{Plan, level, entry, highest_level}
 use Rattle.sets.specs.Sets.{choose}
 use Rattle.sets.proofs.Parts.{Part, skip, keep, part_length, part-trans, part-choose, choose-part}
 use Rattle.plan.specs.Good.{Sound}

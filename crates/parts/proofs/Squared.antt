@@ -1,13 +1,14 @@
 -- Counters and squared counts of some numbers: one number more, and one number less.
 use Rattle.exact.proofs.Ground.{true, false, Bool, cond, List, [], ◌∷◌, map, Memᴰ, mem-head, mem-tail, ◌≡◌, ◌∙◌, sym, ap, refl}
 use Rattle.exact.proofs.Ground.{subst, fun_ext, ℕ, ◌≤◌, ◌<◌, ◌-◌, ◌+◌, ◌*◌, suc, zero, dec_lt, zero-add, le_trans, le_refl, add-one, arith, eqb, pos}
-use Rattle.exact.proofs.Ground.{ℤ, nat_abs, ◌*ℤ◌, ◌+ℤ◌, +ℤ_idl, +ℤ_comm, zero-*ℤ, length, get_or, drop, replicate, set, length-drop, drop-cons}
+use Rattle.exact.proofs.Ground.{ℤ, nat_abs, ◌*ℤ◌, ◌+ℤ◌, +ℤ_idl, +ℤ_comm, zero-*ℤ, length, get_or, drop, take, ◌++◌, take-suc, replicate, set, drop-cons}
+use lib.ListN.{length-take}
 use lib.Seq.{set-set, set-get_or, get_or-set_same}
 use Rattle.exact.specs.Lists.{from, sum}
 use Rattle.exact.proofs.Ring.{ring}
 use Rattle.exact.proofs.Order.{nat_abs-+}
 use Rattle.exact.proofs.Numbers.{map-from-at, mul-below}
-use Rattle.exact.proofs.Lists.{drop-back}
+use Rattle.exact.proofs.Lists.{count-snoc}
 use Rattle.exact.proofs.Rooms.{length-numbered}
 use Rattle.exact.proofs.Sums.{sum-cong, sum-0, sum-+}
 use Rattle.rules.specs.Plan.{most_runs}
@@ -153,29 +154,43 @@ squares-pairs (x ∷ xs) v =
 
 -- ---- a turn of the loops, whose counters are C
 
+-- the order does not matter
+module _ (xs : List ℕ) (x : ℕ) where
+  pub times-snoc : (k : ℕ) → times (xs ++ x ∷ []) k ≡ times (x ∷ xs) k
+  times-snoc k = count-snoc (λ y. eqb y k) xs x ∙ ap (λ c. cond (eqb x k) c (times xs k)) (add-one (times xs k))
+
+  counted-snoc : counted (xs ++ x ∷ []) ≡ counted (x ∷ xs)
+  unfolding counted
+  counted-snoc = ap (λ g. map g (from 0 most_numbers)) (fun_ext times-snoc)
+
+  squares-snoc : squares_of (xs ++ x ∷ []) ≡ squares_of (x ∷ xs)
+  unfolding squares_of
+  squares-snoc = sum-cong (from 0 most_numbers) (λ k. ap (λ c. pos c *ℤ pos c) (times-snoc k))
+
+-- the numbers up to place k
+module _ (xs : List ℕ) (k : ℕ) (C : List ℕ) (e : C ≡ counted (take k xs)) (l : k < length xs) (s : get_or xs k 0 < most_numbers) where
+  pub counted-turn : set C (get_or xs k 0) (get_or C (get_or xs k 0) 0 + 1) ≡ counted (take (k + 1) xs)
+  counted-turn = rw (e, add-one k, take-suc xs k 0) (counted_next (take k xs) (get_or xs k 0) s ∙ sym (counted-snoc (take k xs) (get_or xs k 0)))
+
+  pub squares-turn : (total : ℕ) → pos total ≡ squares_of (take k xs) →
+      pos (total + (2 * get_or C (get_or xs k 0) 0 + 1)) ≡ squares_of (take (k + 1) xs)
+  squares-turn total q =
+      let x = get_or xs k 0 in
+      ap (λ C. pos (total + (2 * get_or C x 0 + 1))) e
+      ∙ ap (λ c. pos (total + (2 * c + 1))) (counted-at (take k xs) x s)
+      ∙ +ℤ_comm (pos total) (pos (2 * times (take k xs) x + 1))
+      ∙ ap (λ z. pos (2 * times (take k xs) x + 1) +ℤ z) q
+      ∙ sym (squares-next x (take k xs) s)
+      ∙ sym (squares-snoc (take k xs) x)
+      ∙ ap squares_of (rw (add-one k, take-suc xs k 0) refl)
+
+  pub counter-small : get_or C (get_or xs k 0) 0 ≤ length xs
+  counter-small =
+      let x = get_or xs k 0 in
+      rw (e, counted-at (take k xs) x s) (omega (arith, times-bound (take k xs) x, length-take k xs))
+
+-- the numbers from place k on
 module _ (xs : List ℕ) (k : ℕ) (C : List ℕ) (e : C ≡ counted (drop k xs)) where
-  -- from place k down
-  module _ (h : 0 < k) (l : k ≤ length xs) (s : get_or xs (k - 1) 0 < most_numbers) where
-    pub counted-turn : set C (get_or xs (k - 1) 0) (get_or C (get_or xs (k - 1) 0) 0 + 1) ≡ counted (drop (k - 1) xs)
-    counted-turn = rw e (counted_next (drop k xs) (get_or xs (k - 1) 0) s ∙ ap counted (sym (drop-back xs k 0 h l)))
-
-    pub squares-turn : (total : ℕ) → pos total ≡ squares_of (drop k xs) →
-        pos (total + (2 * get_or C (get_or xs (k - 1) 0) 0 + 1)) ≡ squares_of (drop (k - 1) xs)
-    squares-turn total q =
-        let x = get_or xs (k - 1) 0 in
-        ap (λ C. pos (total + (2 * get_or C x 0 + 1))) e
-        ∙ ap (λ c. pos (total + (2 * c + 1))) (counted-at (drop k xs) x s)
-        ∙ +ℤ_comm (pos total) (pos (2 * times (drop k xs) x + 1))
-        ∙ ap (λ z. pos (2 * times (drop k xs) x + 1) +ℤ z) q
-        ∙ sym (squares-next x (drop k xs) s)
-        ∙ ap squares_of (sym (drop-back xs k 0 h l))
-
-    pub counter-small : get_or C (get_or xs (k - 1) 0) 0 ≤ length xs
-    counter-small =
-        let x = get_or xs (k - 1) 0 in
-        rw (e, counted-at (drop k xs) x s) (omega (arith, times-bound (drop k xs) x, length-drop k xs))
-
-  -- from place k up
   module _ (l : k < length xs) (s : get_or xs k 0 < most_numbers) where
     pub uncounted-turn : set C (get_or xs k 0) (get_or C (get_or xs k 0) 0 - 1) ≡ counted (drop (k + 1) xs)
     uncounted-turn = rw (e, add-one k, drop-cons xs k 0 l) (counted_back (drop (suc k) xs) (get_or xs k 0) s)

@@ -20,12 +20,10 @@ fn count(numbers: &[u16], counters: &mut [u16; 65536]) -> u64
     ensures counters { counters.new ≡ counted numbers.now }
 {
     let mut total: u64 = 0;
-    let mut k = numbers.len();
-    while 0 < k {
-        k -= 1;
-        let number = numbers[k] as usize;
+    for number in numbers {
+        let number = usize::from(*number);
         let before = counters[number];
-        total += 2 * (before as u64) + 1;
+        total += 2 * u64::from(before) + 1;
         counters[number] = before + 1;
     }
     total
@@ -36,8 +34,8 @@ fn clear(numbers: &[u16], counters: &mut [u16; 65536])
     requires { counters.old ≡ counted numbers.now }
     ensures { counters.new ≡ counted [] }
 {
-    for k in 0..numbers.len() {
-        let number = numbers[k] as usize;
+    for number in numbers {
+        let number = usize::from(*number);
         counters[number] -= 1;
     }
 }
@@ -60,8 +58,8 @@ pub fn longer(numbers: &[u16], level: u8, digits: &[u8]) -> [u16; 256]
     ensures { result ≡ filled_to 256 0 (longer level numbers.now digits.now) }
 {
     let mut room = [0u16; 256];
-    for k in 0..numbers.len() {
-        room[k] = numbers[k] * (level as u16) + (digits[k] as u16);
+    for (k, number) in numbers.iter().enumerate() {
+        room[k] = *number * u16::from(level) + u16::from(digits[k]);
     }
     room
 }
@@ -110,8 +108,8 @@ pub fn turn_column(
         room.new ≡ paste room.old at (map (λ f. entry p f column) runs.now) (length runs.now) }
 {
     let m = levels.len();
-    for k in 0..runs.len() {
-        let start = runs[k] * m;
+    for (k, run) in runs.iter().enumerate() {
+        let start = *run * m;
         room[at + k] = table[start + column];
     }
 }
@@ -125,19 +123,24 @@ pub fn turn_columns(levels: &[u8], table: &[u8], runs: &[usize], columns: &[usiz
         room.new ≡ filled_to (length room.old) 0 (turned (entry p) runs.now columns.now) }
 {
     let n = runs.len();
-    for t in 0..columns.len() {
-        turn_column(levels, table, runs, columns[t], t * n, room);
+    for (t, column) in columns.iter().enumerate() {
+        turn_column(levels, table, runs, *column, t * n, room);
     }
 }
 
-// The same, of up to 4 columns.
-fn turned(levels: &[u8], table: &[u8], runs: &[usize], columns: &[usize]) -> [u8; 1024]
+// The same, in a room of N entries.
+pub fn turned<const N: usize>(
+    levels: &[u8],
+    table: &[u8],
+    runs: &[usize],
+    columns: &[usize],
+) -> [u8; N]
     requires sound { Sound (plan levels.now table.now) runs.now }
-    requires columns { Columns levels.now columns.now × (length columns.now ≤ 4) }
+    requires columns { Columns levels.now columns.now × (length columns.now * length runs.now ≤ N) }
     ensures { let p = plan levels.now table.now in
-        result ≡ filled_to 1024 0 (turned (entry p) runs.now columns.now) }
+        result ≡ filled_to N 0 (turned (entry p) runs.now columns.now) }
 {
-    let mut room = [0u8; 1024];
+    let mut room = [0; N];
     turn_columns(levels, table, runs, columns, &mut room);
     room
 }
@@ -166,7 +169,7 @@ pub fn word(
     ensures counters { counters.new ≡ counted [] }
 {
     let n = runs.len();
-    let digits = turned(levels, table, runs, columns);
+    let digits: [u8; 1024] = turned(levels, table, runs, columns);
     let numbers = [0u16; 256];
     let weight = sign(columns.len());
     over_parts(levels, columns, &digits, &numbers[..n], weight, counters)

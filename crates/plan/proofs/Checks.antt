@@ -10,9 +10,11 @@ use Rattle.exact.proofs.Numbers.{row_within}
 use Rattle.rules.specs.Plan.{Plan, plan, columns, runs, level}
 use Rattle.rules.specs.Plan.{most_columns, most_runs, lowest_level, highest_level, highest_product}
 use Rattle.rules.specs.declared.Refusal.{Refusal}
+use Rattle.std.specs.Prelude.{Ok, Err}
 use Rattle.rules.specs.Refusals.{
   Check,
   refusal,
+  answered,
   accepted,
   or_else,
   bad_columns,
@@ -27,6 +29,7 @@ use Rattle.rules.specs.Refusals.{
   plan_checks,
   of_plan,
 }
+use Rattle.rules.proofs.Answered.{err-first, ok-first}
 use Rattle.rules.proofs.Ranges.{inside, not-outside, or-refused, or-accepted}
 use Rattle.rules.proofs.Order.{each-cons, in_turn, passed_none, none_passed, refused-by-first, passed-by-first}
 use Rattle.plan.specs.Good.{Good}
@@ -132,13 +135,13 @@ module _ (levels table : List ℕ) where
   unfolding first_bad_level
   levels-alone = refl
 
-  pub levels-refused : {r : Refusal} → r ≡ refusal (level_checks (plan levels [])) → ¬ (r.number ≡ 0) →
-      refusal (plan_checks (plan levels table)) ≡ r
-  levels-refused e = refused-by-first (level_checks (plan levels table)) (table_checks (plan levels table)) tt (e ∙ levels-alone)
+  module _ {A B : Type 0} (x : A) (value : B) where
+    pub levels-err : {e : Refusal} → Err e ≡ answered (refusal (level_checks (plan levels []))) x → Err e ≡ answered (refusal (plan_checks (plan levels table))) value
+    levels-err w = err-first (level_checks (plan levels table)) (table_checks (plan levels table)) tt x value (rw levels-alone at w)
 
-  pub levels-accepted : {r : Refusal} → r ≡ refusal (level_checks (plan levels [])) → r.number ≡ 0 →
-      refusal (plan_checks (plan levels table)) ≡ refusal (table_checks (plan levels table))
-  levels-accepted e = passed-by-first (level_checks (plan levels table)) (table_checks (plan levels table)) tt (e ∙ levels-alone)
+    pub levels-ok : {y : A} → Ok y ≡ answered (refusal (level_checks (plan levels []))) x →
+        answered (refusal (plan_checks (plan levels table))) value ≡ answered (refusal (table_checks (plan levels table))) value
+    levels-ok w = ok-first (level_checks (plan levels table)) (table_checks (plan levels table)) tt x value (rw levels-alone at w)
 
 -- ---- a call on a plan: r is what `check` gave, and the call's own checks have numbers that stand later in the order
 

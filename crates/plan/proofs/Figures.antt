@@ -1,9 +1,10 @@
 -- Worked figures: what is answered of each of these plans and of a set of columns, from the definitions. The starred ones of document 01
 -- stand in `planner` Starred.
 use Rattle.exact.proofs.Ground.{List, [], ◌∷◌, map, ◌++◌, ◌≡◌, refl, ℕ, replicate}
+use Rattle.std.specs.Prelude.{Result, Ok, Err}
 use Rattle.rules.specs.declared.Refusal.{Refusal}
 use Rattle.rules.specs.Plan.{Plan, plan}
-use Rattle.rules.specs.Refusals.{refusal, plan_checks, first_bad_level, first_bad_entry}
+use Rattle.rules.specs.Refusals.{refusal, accepted, plan_checks, first_bad_level, first_bad_entry}
 use Rattle.sets.specs.Sets.{place_of, place_answer}
 
 -- the check of a plan, and the place of a set of f of m columns
@@ -15,11 +16,16 @@ data Question : Type 0 where
 abbrev numbers : Refusal → List ℕ
 numbers r = r.number ∷ r.first ∷ r.second ∷ []
 
+-- no refusal and the value, or the refusal and 0
+abbrev by_result : Result ℕ Refusal → List ℕ
+by_result (Ok k) = numbers accepted ++ k ∷ []
+by_result (Err r) = numbers r ++ 0 ∷ []
+
 -- the answer, as numbers in a row: the refusal, then the place
 ask : Question → List ℕ
 unfolding place_of place_answer
 ask (check p) = numbers (refusal (plan_checks p))
-ask (place m f I) = let a = place_answer m f I in numbers a.refused ++ a.place ∷ []
+ask (place m f I) = by_result (place_answer m f I)
 
 record Figure : Type 0 where
   question : Question

@@ -4,4 +4,3 @@ pub mod Answers
 pub mod Sound
 pub mod Several
 pub mod Figures
-pub mod CheckedRuns

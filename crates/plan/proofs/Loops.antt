@@ -1,15 +1,14 @@
 -- A turn of each of the checks' loops, over plain lists.
-use Rattle.exact.proofs.Ground.{true, false, Bool, not, List, [], ◌∷◌, ◌++◌, append_assoc, ◌≡◌, ◌∙◌, sym, ap, ℕ, ◌≤◌, ◌<◌, ◌-◌, ◌+◌, ◌*◌, suc, ◌/◌}
-use Rattle.exact.proofs.Ground.{◌%◌, zero-add, mul-le-mul, mul-pos, add-zero, add-one, arith, ltb, ltb→lt, length, get_or, drop, replicate, set}
+use Rattle.exact.proofs.Ground.{true, false, Bool, not, List, [], ◌∷◌, ◌≡◌, ◌∙◌, sym, ap, ℕ, ◌≤◌, ◌<◌, ◌-◌, ◌+◌, ◌*◌, suc, ◌/◌}
+use Rattle.exact.proofs.Ground.{◌%◌, mul-le-mul, mul-pos, add-zero, add-one, arith, ltb, ltb→lt, length, get_or, drop}
 use Rattle.exact.proofs.Ground.{length-drop, drop-cons, drop-length, get_or-drop, le-ltb, lt-ltb, ltb-false}
 use native.Mathlib.Nat.{mul_assoc, mul-one, mod-eq_of_lt, div-eq_of_lt, mul-add-mod_self_right, mul-add-div_right}
-use lib.Seq.{set_at}
-use Rattle.exact.specs.Lists.{from, first, outside, product}
-use Rattle.exact.proofs.Numbers.{length_from, from-snoc}
+use Rattle.exact.specs.Lists.{first, outside, product}
 use Rattle.exact.proofs.Tests.{is_false, false-is}
 use Rattle.exact.proofs.Searches.{first-is, first-later}
 use Rattle.rules.specs.Plan.{plan, lowest_level, highest_level}
-use Rattle.rules.specs.Refusals.{first_bad_entry, bad_entry, refusal, placed, accepted}
+use Rattle.rules.specs.Refusals.{first_bad_entry, bad_entry, refusal, answered, placed}
+use Rattle.std.specs.Prelude.{Ok, Err}
 use Rattle.plan.specs.Given.{FromOne}
 
 -- ---- a search upward to n
@@ -77,16 +76,9 @@ module _ (levels table : List ℕ) (f i : ℕ) (h : i < length levels) where
   entry-not-below l = rw (column-of, le-ltb _ _ l)
 
   pub entry-refused : f * length levels + i < length table → first_bad_entry (plan levels table) ≡ f * length levels + i →
-      placed 5 f i ≡ refusal (bad_entry (plan levels table) ∷ [])
+      Err (placed 5 f i) ≡ answered (refusal (bad_entry (plan levels table) ∷ [])) (tt {0})
   entry-refused l e = rw (e, lt-ltb _ _ l, run_of, column-of)
 
 pub entries-passed : (levels table : List ℕ) → first_bad_entry (plan levels table) ≡ length table →
-    accepted ≡ refusal (bad_entry (plan levels table) ∷ [])
+    Ok (tt {0}) ≡ answered (refusal (bad_entry (plan levels table) ∷ [])) (tt {0})
 entries-passed levels table e = rw (e, le-ltb (length table) (length table) (omega arith))
-
--- ---- the numbers of the first runs, and zeros
-
-pub run-written : (f n : ℕ) → f < n → set (from 0 f ++ replicate (n - f) 0) f f ≡ from 0 (f + 1) ++ replicate (n - (f + 1)) 0
-run-written f n h =
-    let e : n - f ≡ suc (n - (f + 1)) = omega arith in
-    rw (e, from-snoc 0 f, zero-add, append_assoc) (set_at (from 0 f) 0 (replicate (n - (f + 1)) 0) f f (length_from 0 f))

@@ -1,3 +1,2 @@
 pub mod Good
 pub mod Given
-pub mod Several

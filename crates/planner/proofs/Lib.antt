@@ -1,4 +1,5 @@
 pub mod Answers
+pub mod Sizes
 pub mod Figures
 pub mod Starred
 pub mod Calls

@@ -1,14 +1,17 @@
 -- Document 01, "Worked figures": the rows marked with a star, each with all that it says, in a single statement over their table.
 -- Levels of 1 pass by request #102, where the paper has refusal 2.
 use Rattle.exact.proofs.Ground.{List, [], ◌∷◌, map, ◌≡◌, refl, ℕ, ◌-◌, pos, ℤ, negsuc, get_or, take, replicate}
+use Rattle.std.specs.Prelude.{Result, Ok, Err}
 use Rattle.exact.specs.Fractions.{gcd, reduced, smaller_fraction}
 use Rattle.rules.specs.declared.Refusal.{Refusal}
 use Rattle.rules.specs.Plan.{Plan, plan, columns, runs}
-use Rattle.rules.specs.Refusals.{refusal, plan_checks, first_bad_level, first_bad_entry}
+use Rattle.rules.specs.Refusals.{refusal, refusal_in, plan_checks, first_bad_level, first_bad_entry}
+use Rattle.words.specs.declared.Sums.{Sums}
 use Rattle.words.specs.Words.{score, word_of, word, row_sum}
 use Rattle.words.specs.Answers.{word_list, row_list, rows_by_run, words_answer, row_sums_answer}
 use Rattle.counts.specs.Counts.{even, balanced, strength, strength_answer}
 use Rattle.set_words.specs.SetWords.{relative_of}
+use Rattle.resolution.specs.declared.GeneralizedResolution.{GeneralizedResolution}
 use Rattle.resolution.specs.Resolution.{greatest, root_of, resolution, largest_ratio, generalized_answer}
 use Rattle.held.specs.declared.Held.{Held}
 use Rattle.held.specs.Held.{standing, held_of, open_answer, strikes, call_checks, remarked, call_answer}
@@ -24,21 +27,24 @@ data Question : Type 0 where
 abbrev numbers : Refusal → List ℤ
 numbers r = pos r.number ∷ pos r.first ∷ pos r.second ∷ []
 
--- the refusal's number, then the answer; of a strike and a check the refusal with its places
+-- of an answer 0 and what it shows, or the refusal with its places
+abbrev said : {A : Type 0} → (A → List ℤ) → Result A Refusal → List ℤ
+said shown (Ok value) = pos 0 ∷ shown value
+said shown (Err r) = numbers r
+
+-- what is answered; of a strike and a check the refusal with its places
 ask : Question → List ℤ
-unfolding first_bad_level first_bad_entry open_answer held_of standing call_answer call_checks remarked word_list row_list rows_by_run row_sum word word_of score
-    even balanced strength gcd reduced smaller_fraction relative_of greatest root_of resolution largest_ratio words_answer row_sums_answer strength_answer
+unfolding first_bad_level first_bad_entry open_answer held_of standing call_answer call_checks remarked word_list row_list rows_by_run row_sum word word_of
+    score even balanced strength gcd reduced smaller_fraction relative_of greatest root_of resolution largest_ratio words_answer row_sums_answer strength_answer
     generalized_answer
-ask (words s) =
-    let a = words_answer (plan_asked s) (runs_asked s) (begins s) in pos a.refused.number ∷ take (columns (plan_asked s)) a.words
-ask (strong s) = let a = strength_answer (plan_asked s) (runs_asked s) (begins s) in pos a.refused.number ∷ pos a.strength ∷ []
+ask (words s) = said (take (columns (plan_asked s))) (words_answer (plan_asked s) (runs_asked s) (begins s))
+ask (strong s) = said (λ t. pos t ∷ []) (strength_answer (plan_asked s) (runs_asked s) (begins s))
 ask (rated s) =
-    let a = generalized_answer (plan_asked s) (runs_asked s) (begins s) in
-    pos a.refused.number ∷ pos a.resolution ∷ pos a.thousandths ∷ []
+    said (λ (x : GeneralizedResolution). pos x.resolution ∷ pos x.thousandths ∷ []) (generalized_answer (plan_asked s) (runs_asked s) (begins s))
 ask (row_sums s j) =
-    let a = row_sums_answer (plan_asked s) (runs_asked s) (begins s) in
-    pos a.refused.number ∷ map (λ row. get_or row.sums (j - 1) (pos 0)) (take (runs (plan_asked s)) a.rows)
-ask (strike h f) = numbers (call_answer h (strikes f)).refused
+    said (λ rows. map (λ (row : Sums). get_or row.sums (j - 1) (pos 0)) (take (runs (plan_asked s)) rows))
+    (row_sums_answer (plan_asked s) (runs_asked s) (begins s))
+ask (strike h f) = numbers (refusal_in (call_answer h (strikes f)).answer)
 ask (checked p) = numbers (refusal (plan_checks p))
 
 record Figure : Type 0 where

@@ -3,7 +3,8 @@
 use Rattle.std.specs.Prelude.{Bool, List, [], ◌∷◌, ◌++◌, ℕ, length}
 use Rattle.rules.specs.declared.Refusal.{Refusal}
 use Rattle.rules.specs.Plan.{Plan, columns, runs, level, every_run, most_columns, most_entries}
-use Rattle.rules.specs.Refusals.{Check, refusal, accepted, or_else, level_checks, plan_checks, of_plan, bad_place, bad_length, bad_room, too_long, malformed}
+use Rattle.rules.specs.Refusals.{Check, refusal, refusal_in, accepted, or_else, level_checks, plan_checks, of_plan}
+use Rattle.rules.specs.Refusals.{bad_place, bad_length, bad_room, too_long, malformed}
 use Rattle.sets.specs.Sets.{place_checks, place_answer, set_checks, set_answer}
 use Rattle.survey.specs.Survey.{occurs_answer, alike_answer}
 use Rattle.words.specs.Answers.{words_answer, word_answer, row_sums_answer, diagonal_answer}
@@ -69,20 +70,20 @@ own p rs (tell i J) = tell_checks p i J
 own p rs (table relative f rooms) = table_checks p rs relative f rooms
 
 -- the refusal in its answer
-abbrev pub answered : Plan → List ℕ → (List Check → List Check) → Question → Refusal
-answered p rs start words = (words_answer p rs start).refused
-answered p rs start row-sums = (row_sums_answer p rs start).refused
-answered p rs start strength = (strength_answer p rs start).refused
-answered p rs start resolution = (resolution_answer p rs start).refused
-answered p rs start generalized = (generalized_answer p rs start).refused
-answered p rs start charted = (chart_answer p rs start).refused
-answered p rs start advice = (advice_answer p rs start).refused
-answered p rs start (word j) = (word_answer p rs start j).refused
-answered p rs start (figure i) = (figure_answer p rs start i).refused
-answered p rs start (turns k) = (turns_answer p rs start k).refused
-answered p rs start (set_word f I) = (set_word_answer p rs start f I).refused
-answered p rs start (tell i J) = (tell_answer p rs start i J).refused
-answered p rs start (table relative f rooms) = (table_answer p rs start relative f rooms).refused
+abbrev pub refusal_to : Plan → List ℕ → (List Check → List Check) → Question → Refusal
+refusal_to p rs start words = refusal_in (words_answer p rs start)
+refusal_to p rs start row-sums = refusal_in (row_sums_answer p rs start)
+refusal_to p rs start strength = refusal_in (strength_answer p rs start)
+refusal_to p rs start resolution = refusal_in (resolution_answer p rs start)
+refusal_to p rs start generalized = refusal_in (generalized_answer p rs start)
+refusal_to p rs start charted = refusal_in (chart_answer p rs start)
+refusal_to p rs start advice = refusal_in (advice_answer p rs start)
+refusal_to p rs start (word j) = refusal_in (word_answer p rs start j)
+refusal_to p rs start (figure i) = refusal_in (figure_answer p rs start i)
+refusal_to p rs start (turns k) = refusal_in (turns_answer p rs start k)
+refusal_to p rs start (set_word f I) = refusal_in (set_word_answer p rs start f I)
+refusal_to p rs start (tell i J) = refusal_in (tell_answer p rs start i J)
+refusal_to p rs start (table relative f rooms) = refusal_in (table_answer p rs start relative f rooms)
 
 -- ---- calls
 
@@ -151,25 +152,25 @@ checks_of (set-at m f k) = set_checks m f k ∷ []
 
 -- the refusal in the answer of a call
 abbrev pub refused_by : Call → Refusal
-refused_by (asked s q) = answered (plan_asked s) (runs_asked s) (begins s) q
+refused_by (asked s q) = refusal_to (plan_asked s) (runs_asked s) (begins s) q
 refused_by (compared s t) = (comparison_says (compare_answer (begins s) (plan_asked s) (runs_asked s) (begins t) (plan_asked t) (runs_asked t))).refused
 refused_by (levels-checked p) = refusal (level_checks p)
 refused_by (plan-checked p) = refusal (plan_checks p)
-refused_by (diagonal p) = (diagonal_answer p).refused
-refused_by (opened p) = (open_answer p).refused
-refused_by (written p bytes) = (write_answer p (every_run p) (of_plan p) bytes).refused
-refused_by (level-occurs p i e) = (occurs_answer p (every_run p) (of_plan p) i e).refused
-refused_by (first_alike p f) = (alike_answer p (every_run p) (of_plan p) f).refused
-refused_by (struck-or-reinstated h c) = (call_answer h c).refused
-refused_by (held-written h a b) = (held_text h a b).answer.refused
-refused_by (read text room other) = (read_answer text room other).refused
-refused_by (listed text room) = (listing_answer text room).refused
+refused_by (diagonal p) = refusal_in (diagonal_answer p)
+refused_by (opened p) = refusal_in (open_answer p).answer
+refused_by (written p bytes) = refusal_in (write_answer p (every_run p) (of_plan p) bytes)
+refused_by (level-occurs p i e) = refusal_in (occurs_answer p (every_run p) (of_plan p) i e)
+refused_by (first_alike p f) = refusal_in (alike_answer p (every_run p) (of_plan p) f)
+refused_by (struck-or-reinstated h c) = refusal_in (call_answer h c).answer
+refused_by (held-written h a b) = refusal_in (held_text h a b).answer
+refused_by (read text room other) = refusal_in (read_answer text room other)
+refused_by (listed text room) = refusal_in (listing_answer text room)
 refused_by (refusal-listed text) = refusal (listing_checks text)
-refused_by (rewritten text lost a b) = (rewrite_answer text lost a b).refused
-refused_by (tell-marked p marks a J room) = (marked_written p marks a J room).refused
-refused_by (table-marked p marks relative f rooms) = (table_answer p (marked_runs p marks) (of_marked p marks) relative f rooms).refused
-refused_by (placed m f I) = (place_answer m f I).refused
-refused_by (set-at m f k) = (set_answer m f k).refused
+refused_by (rewritten text lost a b) = refusal_in (rewrite_answer text lost a b)
+refused_by (tell-marked p marks a J room) = refusal_in (marked_written p marks a J room)
+refused_by (table-marked p marks relative f rooms) = refusal_in (table_answer p (marked_runs p marks) (of_marked p marks) relative f rooms)
+refused_by (placed m f I) = refusal_in (place_answer m f I)
+refused_by (set-at m f k) = refusal_in (set_answer m f k)
 
 -- the refusal of the first list that refuses, and that of the last where none before it does
 abbrev pub in_turn : List (List Check) → Refusal

@@ -1,9 +1,9 @@
 // What a C program links: the calls of `planner` under the names of include/crumbchorus.h, each with the same contract.
 #![tactic(auto)]
 
-ghost use Rattle.std.specs.Prelude.{◌≡◌, pos, length};
+ghost use Rattle.std.specs.Prelude.{◌≡◌, length};
 ghost use Rattle.rules.specs.Plan.{plan, every_run};
-ghost use Rattle.rules.specs.Refusals.{of_plan, number_or};
+ghost use Rattle.rules.specs.Refusals.{of_plan, refusal_in, number_or};
 ghost use Rattle.words.specs.Answers.{planner_word};
 ghost use Rattle.text.specs.Reader.{filled};
 ghost use Rattle.writer.specs.Writer.{write_text, write_answer};
@@ -11,7 +11,8 @@ ghost use Rattle.standing_text.specs.StandingText.{rewrite_answer, rewritten, ru
 ghost use Rattle.listing_lines.specs.Listing.{planner_listing, listing_room};
 ghost use Rattle.tell_marked.specs.TellMarked.{tell_number, tell_room};
 ghost use Rattle.projection_tables.specs.Tables.{rooms};
-ghost use Rattle.planner.specs.Exports.{version, table_number, table_filled};
+ghost use Rattle.text.specs.Bytes.{sized};
+ghost use Rattle.planner.specs.Exports.{version, bytes_in, table_number, table_filled};
 
 // The version of this library, as the header writes it.
 #[unsafe(no_mangle)]
@@ -43,10 +44,10 @@ pub extern "C" fn crumb_listing(text: &[u8], room: &mut [u8]) -> i64
 pub extern "C" fn crumb_write(levels: &[u8], table: &[u8], room: &mut [u8]) -> i64
     ensures answer { let p = plan levels.now table.now in
         let a = write_answer p (every_run p) (of_plan p) (length room.old) in
-        result ≡ number_or a.refused (pos a.bytes) }
+        result ≡ number_or (sized a) }
     ensures room { let p = plan levels.now table.now in
         let a = write_answer p (every_run p) (of_plan p) (length room.old) in
-        room.new ≡ filled a.refused (write_text p) room.old }
+        room.new ≡ filled (refusal_in a) (write_text p) room.old }
 {
     planner::crumb_write(levels, table, room)
 }
@@ -103,11 +104,11 @@ pub extern "C" fn crumb_rewrite(
     numbers: &mut [usize],
 ) -> i64
     ensures answer { let a = rewrite_answer text.now lost.now (length room.old) (length numbers.old) in
-        result ≡ number_or a.refused (pos a.bytes) }
+        result ≡ number_or (sized (bytes_in a)) }
     ensures room { let a = rewrite_answer text.now lost.now (length room.old) (length numbers.old) in
-        room.new ≡ filled a.refused (rewritten text.now lost.now) room.old }
+        room.new ≡ filled (refusal_in a) (rewritten text.now lost.now) room.old }
     ensures numbers { let a = rewrite_answer text.now lost.now (length room.old) (length numbers.old) in
-        numbers.new ≡ filled a.refused (runs_left text.now lost.now) numbers.old }
+        numbers.new ≡ filled (refusal_in a) (runs_left text.now lost.now) numbers.old }
 {
     planner::crumb_rewrite(text, lost, room, numbers)
 }

@@ -1,8 +1,7 @@
 -- Below R every value is zero, so that a table has one line: 0/1, with all sets.
 use Rattle.exact.proofs.Ground.{Bool, true, false, List, [], ◌∷◌, map, Memᴰ, mem-head, mem-tail, mem-of_map, ◌≡◌, ◌∙◌, sym, ap, ap₂, refl}
 use Rattle.exact.proofs.Ground.{ℕ, ◌*◌, ◌≤◌, ◌<◌, suc, zero, arith, pos, nat_abs, length, replicate, length-map}
-use Rattle.exact.specs.Lists.{count}
-use Rattle.exact.specs.Fractions.{zero_fraction, reduced, smaller_fraction, is_equal}
+use Rattle.exact.specs.Fractions.{zero_fraction, reduced, smaller_fraction}
 use Rattle.exact.specs.declared.fractions.Fraction.{Fraction}
 use Rattle.exact.proofs.Reduced.{reduced-zero}
 use Rattle.rules.specs.Plan.{Plan, columns, level, entry, every_column}
@@ -17,7 +16,7 @@ use Rattle.set_words.proofs.Products.{part-projection}
 use Rattle.set_words.proofs.Values.{over-between, value-has}
 use Rattle.resolution.specs.Resolution.{resolution_in}
 use Rattle.resolution.proofs.Agreement.{none-shorter, all-below}
-use Rattle.projection_tables.specs.Tables.{Line, line, insert_all, times, table_of, table_in, absolute_table, relative_table}
+use Rattle.projection_tables.specs.Tables.{line, insert_all, times, table_of, table_in, absolute_table, relative_table}
 
 -- ---- a table of zeros
 

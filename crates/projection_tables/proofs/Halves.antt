@@ -1,5 +1,5 @@
 -- The search by halves among lines that rise.
-use Rattle.exact.proofs.Ground.{true, false, Bool, not, List, [], ◌∷◌, map, Memᴰ, mem-head, mem-tail, ◌≡◌, ◌∙◌, sym, ap, refl, subst, ℕ, ◌≤◌, ◌<◌, ◌+◌, suc, zero}
+use Rattle.exact.proofs.Ground.{Bool, not, List, [], ◌∷◌, ◌≡◌, sym, refl, subst, ℕ, ◌≤◌, ◌<◌, ◌+◌, suc, zero}
 use Rattle.exact.proofs.Ground.{arith, T, length, get_or, dec_lt}
 use mathlib.Core.Logic.{dite}
 use Rattle.exact.specs.Lists.{first}
@@ -9,10 +9,10 @@ use Rattle.exact.specs.declared.fractions.Verdict.{Verdict}
 use Rattle.exact.specs.declared.fractions.Verdict.TheVariants.{Better, Worse, Equal}
 use Rattle.exact.proofs.Lawful.{fractions}
 use Rattle.exact.proofs.Members.{get_or-mem}
-use Rattle.exact.proofs.Searches.{IsFirst, first-is, first-unique}
+use Rattle.exact.proofs.Searches.{first-is, first-unique}
 use Rattle.projection_tables.specs.Tables.{fraction_at}
 use Rattle.projection_tables.specs.Given.{Comparable, not_smaller}
-use Rattle.projection_tables.specs.Properties.{Below, Rising}
+use Rattle.projection_tables.specs.Properties.{Rising}
 
 -- none below `low` passes, and the one at `high` does
 pub record Halved (test : ℕ → Bool) (used low high : ℕ) : Type 0 where
@@ -31,26 +31,22 @@ halved-found test used low high e H =
       none_before = λ k h l. H.none_below k l;
     }) (first-is test 0 used)
 
-better : (r : Verdict) → is_better r ≡ true → r ≡ Better
-better Better e = refl
-better Worse e = absurd (subst T (sym e) tt)
-better Equal e = absurd (subst T (sym e) tt)
+not-better : (r : Verdict) → ¬ (r ≡ Better) → T (not (is_better r))
+not-better Better n = absurd (n refl)
+not-better Worse n = tt
+not-better Equal n = tt
 
 module _ (nums dens : List ℕ) (used : ℕ) (v : Fraction) (C : Comparable nums dens used) (S : ShortDenominator v) (low high middle : ℕ)
-    (H : Halved (not_smaller nums dens v) used low high) (a : low ≤ middle) (b : middle < high) (r : Bool)
-    (e : r ≡ is_better (smaller_fraction (fraction_at nums dens middle) v)) where
+    (H : Halved (not_smaller nums dens v) used low high) (a : low ≤ middle) (b : middle < high) where
   -- a line that is smaller: so are all before it
-  pub halved-up : r ≡ true → Halved (not_smaller nums dens v) used (middle + 1) high
-  halved-up q = record {
+  pub halved-up : smaller_fraction (fraction_at nums dens middle) v ≡ Better → Halved (not_smaller nums dens v) used (middle + 1) high
+  halved-up here = record {
     ordered = omega arith;
     within = H.within;
     none_below = λ k l t. subst (λ x. T (not (is_better x))) (all-smaller k l) t;
     passes = H.passes;
   }
     where
-      here : smaller_fraction (fraction_at nums dens middle) v ≡ Better
-      here = better (smaller_fraction (fraction_at nums dens middle) v) (sym e ∙ q)
-
       proper : (k : ℕ) → k < used → 0 < (fraction_at nums dens k).den
       proper k l = (C.short k l).above_zero
 
@@ -61,12 +57,12 @@ module _ (nums dens : List ℕ) (used : ℕ) (v : Fraction) (C : Comparable nums
           (λ h. let z : k ≡ middle = omega arith in subst (λ j. smaller_fraction (fraction_at nums dens j) v ≡ Better) (sym z) here)
 
   -- a line that is not
-  pub halved-down : r ≡ false → Halved (not_smaller nums dens v) used low middle
-  halved-down q = record {
+  pub halved-down : ¬ (smaller_fraction (fraction_at nums dens middle) v ≡ Better) → Halved (not_smaller nums dens v) used low middle
+  halved-down n = record {
     ordered = a;
     within = omega (arith, H.within);
     none_below = H.none_below;
-    passes = λ h. subst (λ x. T (not x)) (sym (sym e ∙ q)) tt;
+    passes = λ h. not-better (smaller_fraction (fraction_at nums dens middle) v) n;
   }
 
 -- rising values, by their places

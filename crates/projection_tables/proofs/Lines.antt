@@ -1,10 +1,10 @@
 -- The lines in three rooms, and what one set more does to each room.
-use Rattle.exact.proofs.Ground.{true, false, not, List, [], ◌∷◌, map, ◌++◌, ◌≡◌, ◌∙◌, sym, ap, refl, ap₂, subst, ℕ, ◌≤◌, ◌<◌, ◌+◌, suc, zero}
+use Rattle.exact.proofs.Ground.{not, List, [], ◌∷◌, map, ◌++◌, ◌≡◌, ◌∙◌, sym, ap, refl, ap₂, subst, ℕ, ◌≤◌, ◌<◌, ◌+◌, suc, zero}
 use Rattle.exact.proofs.Ground.{zero-add, arith, T, length, get_or, take, drop, set, length-map, length-set, take-append-drop, length-take-le}
 use Rattle.exact.proofs.Ground.{get_or-take}
 use lib.Seq.{set-append_left, set-get_or}
 use Rattle.exact.specs.Lists.{from, into, first}
-use Rattle.exact.specs.Fractions.{smaller_fraction, is_better, is_equal}
+use Rattle.exact.specs.Fractions.{smaller_fraction, is_better}
 use Rattle.exact.specs.declared.fractions.Fraction.{Fraction}
 use Rattle.exact.specs.declared.fractions.Verdict.{Verdict}
 use Rattle.exact.specs.declared.fractions.Verdict.TheVariants.{Better, Worse, Equal}
@@ -94,15 +94,10 @@ not-better Better h = refl
 not-better Worse h = absurd (h tt)
 not-better Equal h = absurd (h tt)
 
-is-equal : (r : Verdict) → is_equal r ≡ true → r ≡ Equal
-is-equal Better e = absurd (subst T (sym e) tt)
-is-equal Worse e = absurd (subst T (sym e) tt)
-is-equal Equal e = refl
-
-is-worse : (r : Verdict) → T (not (is_better r)) → is_equal r ≡ false → r ≡ Worse
-is-worse Better t e = absurd t
-is-worse Worse t e = refl
-is-worse Equal t e = absurd (subst T e tt)
+is-worse : (r : Verdict) → T (not (is_better r)) → ¬ (r ≡ Equal) → r ≡ Worse
+is-worse Better t n = absurd t
+is-worse Worse t n = refl
+is-worse Equal t n = absurd (n refl)
 
 module _ (R : Rooms) (used : ℕ) (v : Fraction) (F : Fillable used R) (at : ℕ)
     (found : at ≡ first (not_smaller R.nums R.dens v) 0 used) where
@@ -129,11 +124,11 @@ module _ (R : Rooms) (used : ℕ) (v : Fraction) (F : Fillable used R) (at : ℕ
   counts-column : map (λ l. l.sets) (lines_in R used) ≡ take used R.counts
   counts-column = column R used (λ l. l.sets) R.counts (omega (arith, F.counts-free)) (λ k. refl)
 
-  module _ (h : at < used) (e : is_equal (smaller_fraction (line_at R at).value v) ≡ true) where
+  module _ (h : at < used) (e : smaller_fraction (line_at R at).value v ≡ Equal) where
     again : one_more v (lines_in R used) ≡ set (lines_in R used) at (line (line_at R at).value ((line_at R at).sets + 1))
     again =
         one-more-found v (line v 0) (lines_in R used) at (rw (length-lines R used) h) all-smaller
-        (line-verdict at h Equal (is-equal (smaller_fraction (line_at R at).value v) e))
+        (line-verdict at h Equal e)
         ∙ ap (λ l. set (lines_in R used) at (line l.value (l.sets + 1))) (line-at R used at (line v 0) h)
 
     pub found-lines : used ≡ length (one_more v (lines_in R used))
@@ -148,7 +143,7 @@ module _ (R : Rooms) (used : ℕ) (v : Fraction) (F : Fillable used R) (at : ℕ
         (room-set R.counts used (omega (arith, F.counts-free)) (λ l. l.sets) ls counts-column at y h)
         ∙ ap (λ ls. rooms_filled ls R) (sym again)
 
-  module _ (e : at < used → is_equal (smaller_fraction (line_at R at).value v) ≡ false) where
+  module _ (e : at < used → ¬ (smaller_fraction (line_at R at).value v ≡ Equal)) where
     new : one_more v (lines_in R used) ≡ put_before at (line v 1) (lines_in R used)
     new =
         one-more-new v (line v 0) (lines_in R used) at (rw (length-lines R used) at-within) all-smaller

@@ -1,13 +1,14 @@
 -- A walk over the sets by `choose`'s own recursion: the table after some values more, and what the walk is given with a column and without it.
 use Rattle.exact.proofs.Ground.{true, false, Bool, List, [], ◌∷◌, map, ◌++◌, Memᴰ, mem-head, mem-tail, mem-of_map, mem-map, mem-append_left}
-use Rattle.exact.proofs.Ground.{mem-append_right, mem-append_cases, append_assoc, append-nil, ⊎_elim, ◌≡◌, ◌∙◌, sym, ap, ap₂, refl, subst, ℕ, ◌≤◌, ◌<◌, ◌-◌, ◌+◌, ◌*◌}
-use Rattle.exact.proofs.Ground.{◌^◌, suc, zero, le_trans, arith, ℤ, length, get_or, drop, take, length-append, length-map, take-append-drop, mem-not_nil, replicate, length-replicate, set, take_at, pos}
-use mathlib.Core.Logic.{dite}
+use Rattle.exact.proofs.Ground.{mem-append_right, mem-append_cases, append_assoc, append-nil, ⊎_elim, ◌⊎◌, inl, inr, ◌≡◌, ◌∙◌, sym, ap, ap₂, refl}
+use Rattle.exact.proofs.Ground.{subst, ℕ, ◌≤◌, ◌<◌, ◌-◌, ◌+◌, ◌*◌}
+use Rattle.exact.proofs.Ground.{◌^◌, suc, zero, le_trans, arith, ℤ, length, get_or, drop, take, length-append, length-map, take-append-drop}
+use Rattle.exact.proofs.Ground.{mem-not_nil, replicate, length-replicate, set, pos}
 use native.Mathlib.Nat.{min-le_left, min-le_right}
-use lib.Dec.{lt→ltb}
-use Rattle.exact.proofs.Searches.{first-is}
-use Rattle.exact.proofs.Ground.{dec_lt, T, ltb, lt-ltb, le-ltb, min}
-use Rattle.exact.specs.Lists.{from, into, filled_to, first}
+use Rattle.exact.proofs.Ground.{T, leb, leb→le, ◌||◌, min}
+use Rattle.exact.proofs.Tests.{both}
+use Rattle.std.specs.List.{list_all}
+use Rattle.exact.specs.Lists.{from, into, filled_to}
 use Rattle.exact.specs.Fractions.{smaller_fraction, is_equal, zero_fraction, ShortDenominator}
 use Rattle.exact.specs.declared.fractions.Fraction.{Fraction}
 use Rattle.exact.specs.declared.fractions.Verdict.{Verdict}
@@ -32,12 +33,12 @@ use Rattle.set_words.proofs.Products.{part-projection}
 use Rattle.set_words.proofs.Values.{value-short}
 use Rattle.part_sums.specs.Counters.{counters_of}
 use Rattle.part_sums.specs.Stored.{numbers_in, stored_at, filled_by, places}
-use Rattle.part_sums.specs.Given.{Counting, Worded, Kept}
+use Rattle.part_sums.specs.Given.{Counting, Inside, Worded, Kept}
 use Rattle.part_sums.proofs.Counting.{counters-none}
 use Rattle.part_sums.proofs.Places.{places-mono, places-base}
 use Rattle.part_sums.proofs.Filling.{begun-with, begun-without}
 use Rattle.projection_tables.specs.Tables.{Line, line, pick, times, table_of, one_more, Rooms, line_at, lines_in, rooms_filled, table_in, shortest}
-use Rattle.projection_tables.specs.Given.{Fillable, Wide, count_all, values_from, Tallied, Walking, Lent, is_high, is_little}
+use Rattle.projection_tables.specs.Given.{Fillable, Wide, count_all, values_from, Tallied, Walking, Enough, is_little}
 use Rattle.projection_tables.proofs.Tables.{EachProper, table_none, table-next, table_is}
 use Rattle.projection_tables.proofs.Walks.{one-more-grows, lines-filled, filled-again, length-into, few-sets, each-value, asked, table-right}
 use Rattle.projection_tables.proofs.Lines.{length-lines, line-at, column, rooms-eq}
@@ -287,12 +288,6 @@ unchanged more used R W = (
 -- ---- the whole walk
 
 -- the columns of a plan, and the entries of some runs in them
-pub columns-front : (m : ℕ) (cs : List ℕ) → cs ≡ from 0 m ++ replicate (256 - m) 0 → (take m cs ≡ from 0 m) × (m ≤ length cs)
-columns-front m cs e = (
-  ap (take m) e ∙ take_at (from 0 m) (replicate (256 - m) 0) m (length_from 0 m),
-  omega (arith, ap length e, length-append (from 0 m) (replicate {A = ℕ} (256 - m) 0), length_from 0 m),
-)
-
 module _ (p : Plan) (rs : List ℕ) (G : Tabled p rs) where
   pub few-entries : columns p * length rs ≤ 6_144
   few-entries = mul-below (columns p) (length rs) most_columns most_runs G.sound.columns-high G.sound.few
@@ -311,6 +306,23 @@ module _ (p : Plan) (rs : List ℕ) (G : Tabled p rs) where
   every-column cs a =
       let inside : (i : ℕ) → Memᴰ i cs → i < columns p = λ i m. omega (arith, mem-from 0 (columns p) (subst (λ cs. Memᴰ i cs) a m)) in
       (record { inside = inside; low = λ i m. G.sound.level-low i (inside i m) }, rw (a, length_from 0 (columns p)) G.sound.columns-high)
+
+-- room for T of every set of up to f - 1 columns, and a counter for each combination of f columns, all zero
+pub record Lent (p : Plan) (f : ℕ) (parts : List ℤ) (counters : List ℕ) : Type 0 where
+  pub blank : parts ≡ replicate (length parts) (pos 0)
+  pub wide : places (columns p + 1) (f - 1) ≤ length parts
+  pub cleared : counters ≡ counters_of (length counters) []
+  pub short : length counters ≤ most_numbers
+  pub enough : (J : List ℕ) → Inside p J → length J ≤ f → product_of (level p) J ≤ length counters
+
+pub lent-zeros : (p : Plan) (f a b : ℕ) → Enough p f a b → Lent p f (replicate a (pos 0)) (replicate b 0)
+lent-zeros p f a b E = record {
+  blank = ap (λ n. replicate n (pos 0)) (sym (length-replicate a (pos 0)));
+  wide = rw (length-replicate a (pos 0)) E.wide;
+  cleared = counters-none b ∙ ap (λ n. counters_of n []) (sym (length-replicate b 0));
+  short = rw (length-replicate {A = ℕ} b 0) E.short;
+  enough = λ J v l. rw (length-replicate {A = ℕ} b 0) (E.each J v l);
+}
 
 module _ (p : Plan) (rs : List ℕ) (f : ℕ) (G : Tabled p rs) (z : SizeOf (columns p) f) (parts : List ℤ) (counters : List ℕ) (L : Lent p f parts counters) where
   pub lent-counting : (k : ℕ) → k ≤ f → (ds all : List ℕ) → ds ≡ turned (entry p) rs (from 0 (columns p)) → all ≡ from 0 most_runs → Counting p rs k ds all counters
@@ -387,66 +399,57 @@ product-most level s [] h = omega arith
 product-most level s (i ∷ J) h =
     omega (arith, mul-below (level i) (product_of level J) s (places s (length J)) (h i (mem-head refl)) (product-most level s J (λ k m. h k (mem-tail m))))
 
-pub lent-rooms : (p : Plan) (f a b s : ℕ) → 1 ≤ s → f ≤ 4 → places (columns p + 1) (f - 1) ≤ a → places s 4 ≤ b → b ≤ most_numbers → ((i : ℕ) → i < columns p → level p i ≤ s) →
-    Lent p f (replicate a (pos 0)) (replicate b 0)
-lent-rooms p f a b s some h wide enough short low = record {
-  blank = ap (λ n. replicate n (pos 0)) (sym (length-replicate a (pos 0)));
-  wide = rw (length-replicate a (pos 0)) wide;
-  cleared = counters-none b ∙ ap (λ n. counters_of n []) (sym (length-replicate b 0));
-  short = rw (length-replicate {A = ℕ} b 0) short;
-  enough = λ J v l.
-      rw (length-replicate {A = ℕ} b 0)
-      (le_trans (product-most (level p) s J (λ i m. low i (v i m))) (le_trans (places-mono s some (length J) 4 (omega arith)) enough));
+enough-places : (p : Plan) (f a b s : ℕ) → 1 ≤ s → f ≤ 4 → a < 2 ^ 32 → places (columns p + 1) (f - 1) ≤ a → places s 4 ≤ b → b ≤ most_numbers →
+    ((i : ℕ) → i < columns p → level p i ≤ s) → Enough p f a b
+enough-places p f a b s some h few wide enough short low = record {
+  wide = wide;
+  few = few;
+  short = short;
+  each = λ J v l. le_trans (product-most (level p) s J (λ i m. low i (v i m))) (le_trans (places-mono s some (length J) 4 (omega arith)) enough);
 }
 
 -- up to 24 columns of 16 levels
-pub lent-large : (p : Plan) (rs : List ℕ) (f : ℕ) → Sound p rs → f ≤ 4 → Lent p f (replicate 15_625 (pos 0)) (replicate 65_536 0)
-lent-large p rs f S h =
-    lent-rooms p f 15_625 65_536 16 (omega arith) h
+pub enough-large : (p : Plan) (rs : List ℕ) (f : ℕ) → Sound p rs → f ≤ 4 → Enough p f 15_625 65_536
+enough-large p rs f S h =
+    enough-places p f 15_625 65_536 16 (omega arith) h (omega arith)
     (le_trans (places-base (columns p + 1) 25 (omega (arith, S.columns-high)) (f - 1)) (places-mono 25 (omega arith) (f - 1) 3 (omega arith)))
     (omega arith) (omega arith) S.level-high
 
--- small rooms are enough
-pub lent-little : (p : Plan) (rs : List ℕ) (f : ℕ) → Sound p rs → f ≤ 4 → is_little p.levels f ≡ true → Lent p f (replicate 729 (pos 0)) (replicate 625 0)
+-- what every member passes, that at a place passes
+listed-at : (test : ℕ → Bool) (xs : List ℕ) → T (list_all test xs) → (k : ℕ) → k < length xs → T (test (get_or xs k 0))
+listed-at test [] t k h = absurd (omega arith)
+listed-at test (x ∷ xs) t zero h = (both (test x) (list_all test xs) t).0
+listed-at test (x ∷ xs) t (suc k) h = listed-at test xs (both (test x) (list_all test xs) t).1 k (omega arith)
+
+either : (a b : Bool) → T (a || b) → T a ⊎ T b
+either true b t = inl t
+either false b t = inr t
+
+-- small places are enough
+pub enough-little : (p : Plan) (rs : List ℕ) (f : ℕ) → Sound p rs → f ≤ 4 → is_little p.levels f ≡ true → Enough p f 729 625
 unfolding is_little
-lent-little p rs f S h e = go (dec_lt at m) (dec_lt m 9) (dec_lt f 4)
+enough-little p rs f S h e = ⊎_elim few-columns few-taken (either (leb (columns p) 8) (leb f 3) tests.1)
   where
-    m : ℕ
-    m = columns p
+    tests : T (list_all (λ s. leb s 5) p.levels) × T (leb (columns p) 8 || leb f 3)
+    tests = both (list_all (λ s. leb s 5) p.levels) (leb (columns p) 8 || leb f 3) (subst T (sym e) tt)
 
-    at : ℕ
-    at = first (is_high p.levels) 0 m
+    low : (i : ℕ) → i < columns p → level p i ≤ 5
+    low i l = leb→le (level p i) 5 (listed-at (λ s. leb s 5) p.levels tests.0 i l)
 
-    low : m ≤ at → (i : ℕ) → i < m → level p i ≤ 5
-    low l i k = dite (dec_lt 5 (level p i)) (λ q. absurd ((first-is (is_high p.levels) 0 m).none_before i (omega arith) (omega arith) (lt→ltb 5 (level p i) q))) (λ q. omega arith)
+    wide : places (columns p + 1) (f - 1) ≤ 729 → Enough p f 729 625
+    wide w = enough-places p f 729 625 5 (omega arith) h (omega arith) w (omega arith) (omega arith) low
 
-    lent : places (columns p + 1) (f - 1) ≤ 729 → m ≤ at → Lent p f (replicate 729 (pos 0)) (replicate 625 0)
-    lent w l = lent-rooms p f 729 625 5 (omega arith) h w (omega arith) (omega arith) (low l)
+    few-columns : T (leb (columns p) 8) → Enough p f 729 625
+    few-columns t =
+        let c = leb→le (columns p) 8 t in
+        wide (le_trans (places-base (columns p + 1) 9 (omega arith) (f - 1)) (places-mono 9 (omega arith) (f - 1) 3 (omega arith)))
 
-    unlike : false ≡ true → Lent p f (replicate 729 (pos 0)) (replicate 625 0)
-    unlike q = absurd (subst T (sym q) tt)
-
-    go : Dec (at < m) → Dec (m < 9) → Dec (f < 4) → Lent p f (replicate 729 (pos 0)) (replicate 625 0)
-    go (yes l) b c = unlike (rw (lt-ltb at m l) at e)
-    go (no l) (yes b) c = lent (le_trans (places-base (columns p + 1) 9 (omega arith) (f - 1)) (places-mono 9 (omega arith) (f - 1) 3 (omega arith))) (omega arith)
-    go (no l) (no b) (yes c) =
-        lent (le_trans (le_trans (places-base (columns p + 1) 25 (omega (arith, S.columns-high)) (f - 1)) (places-mono 25 (omega arith) (f - 1) 2 (omega arith))) (omega arith)) (omega arith)
-    go (no l) (no b) (no c) = unlike (rw (le-ltb at m (omega arith), le-ltb m 9 (omega arith), le-ltb f 4 (omega arith)) at e)
-
--- ---- whether they are, in the words of the code
-
-module _ (levels : List ℕ) (f at : ℕ) (e : at ≡ first (is_high levels) 0 (length levels)) where
-  pub little-high : at < length levels → false ≡ is_little levels f
-  unfolding is_little
-  little-high l = rw (sym e, lt-ltb at (length levels) l)
-
-  pub little-columns : length levels ≤ at → length levels < 9 → true ≡ is_little levels f
-  unfolding is_little
-  little-columns l h = rw (sym e, le-ltb at (length levels) l, lt-ltb (length levels) 9 h)
-
-  pub little-size : length levels ≤ at → 9 ≤ length levels → ltb f 4 ≡ is_little levels f
-  unfolding is_little
-  little-size l h = rw (sym e, le-ltb at (length levels) l, le-ltb (length levels) 9 h)
+    few-taken : T (leb f 3) → Enough p f 729 625
+    few-taken t =
+        let c = leb→le f 3 t in
+        wide
+        (le_trans (le_trans (places-base (columns p + 1) 25 (omega (arith, S.columns-high)) (f - 1)) (places-mono 25 (omega arith) (f - 1) 2 (omega arith)))
+        (omega arith))
 
 -- rooms with a line for every set hold the table
 pub every-line : (relative : Bool) (p : Plan) (rs : List ℕ) (f : ℕ) → Tabled p rs → SizeOf (columns p) f → length (table_in relative p rs f) ≤ binom (columns p) f

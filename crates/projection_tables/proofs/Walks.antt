@@ -1,33 +1,28 @@
 -- Lines put into rooms and read again, and the table of all sets of a plan.
-use Rattle.exact.proofs.Ground.{true, false, Bool, List, [], ◌∷◌, map, ◌++◌, Memᴰ, mem-of_map, ◌≡◌, ◌∙◌, sym, ap, refl, ap₂, subst, ℕ, ◌≤◌, ◌<◌}
-use Rattle.exact.proofs.Ground.{◌-◌, ◌+◌, ◌^◌, arith, leb, leb→le, length, get_or, drop, length-append, length-map, length-drop, get_or-append}
+use Rattle.exact.proofs.Ground.{true, false, Bool, List, [], ◌∷◌, map, ◌++◌, Memᴰ, mem-of_map, ◌≡◌, ◌∙◌, sym, ap, refl, subst, ℕ, ◌≤◌, ◌<◌}
+use Rattle.exact.proofs.Ground.{◌-◌, ◌+◌, arith, leb, leb→le, length, get_or, drop, length-append, length-map, length-drop, get_or-append}
 use Rattle.exact.proofs.Ground.{drop-drop}
 use lib.Seq.{drop-append-add}
 use Rattle.exact.specs.Lists.{from, into, all}
-use Rattle.exact.specs.Fractions.{smaller_fraction, is_equal, ShortDenominator}
+use Rattle.exact.specs.Fractions.{smaller_fraction}
 use Rattle.exact.specs.declared.fractions.Fraction.{Fraction}
 use Rattle.exact.specs.declared.fractions.Verdict.{Verdict}
 use Rattle.exact.specs.declared.fractions.Verdict.TheVariants.{Better, Worse, Equal}
-use Rattle.exact.proofs.Lists.{map-cong-in, map-map, get_d_map, count_most}
+use Rattle.exact.proofs.Lists.{map-cong-in, get_d_map}
 use Rattle.exact.proofs.Numbers.{map-places, mem-from, from-mem}
-use Rattle.exact.proofs.Rooms.{length-numbered, numbered_next}
 use Rattle.exact.proofs.Tests.{all-mem}
-use Rattle.exact.proofs.Members.{get_or-mem}
 use Rattle.rules.specs.Plan.{Plan, columns, most_columns}
-use Rattle.sets.specs.Sets.{binom, sets_of, set_at}
+use Rattle.sets.specs.Sets.{binom, sets_of}
 use Rattle.sets.proofs.Parts.{choose-part}
-use Rattle.sets.proofs.Places.{set-at-set, every_set}
-use Rattle.sets.proofs.Rising.{set-part}
 use Rattle.sets.proofs.Pascal.{many-sets}
 use Rattle.set_words.specs.SetWords.{value_in}
-use Rattle.projection_tables.specs.Tables.{Line, line, pick, times, table_of, absolute_table, relative_table, table_in, one_more}
+use Rattle.projection_tables.specs.Tables.{Line, line, pick, table_of, absolute_table, relative_table, table_in, one_more}
 use Rattle.projection_tables.specs.Tables.{Rooms, line_at, lines_in, rooms_filled}
 use Rattle.set_words.specs.Given.{SizeOf, Tabled, Projection}
-use Rattle.projection_tables.specs.Given.{Fillable, Wide}
 use Rattle.set_words.proofs.Products.{part-projection}
 use Rattle.set_words.proofs.Values.{value-short}
 use Rattle.projection_tables.specs.Properties.{counted_in, IsTable}
-use Rattle.projection_tables.proofs.Tables.{table_none, table-next, table_is}
+use Rattle.projection_tables.proofs.Tables.{table_is}
 
 -- ---- lines put into rooms, and read again
 

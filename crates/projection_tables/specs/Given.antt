@@ -1,17 +1,17 @@
 -- What the routines that fill a table are given.
-use Rattle.std.specs.Prelude.{Bool, true, false, cond, not, ltb, ◌≡◌, ℕ, ◌+◌, ◌-◌, ◌≤◌, ◌<◌, ◌^◌, ℤ, pos, length, get_or, take, drop, replicate}
+use Rattle.std.specs.Prelude.{Bool, true, not, ◌&&◌, ◌||◌, leb, ◌≡◌, ℕ, ◌+◌, ◌-◌, ◌≤◌, ◌<◌, ◌^◌, ℤ, length, get_or, take, drop}
 use mathlib.Core.List.{List, [], ◌∷◌, ◌++◌, map, Memᴰ}
 use Rattle.exact.specs.Fractions.{smaller_fraction, is_better, ShortDenominator}
 use Rattle.exact.specs.declared.fractions.Fraction.{Fraction}
 use Rattle.exact.specs.declared.fractions.Verdict.TheVariants.{Better}
-use Rattle.exact.specs.Lists.{from, first}
+use Rattle.std.specs.List.{list_all}
+use Rattle.exact.specs.Lists.{from}
 use Rattle.rules.specs.Plan.{Plan, columns, level}
 use Rattle.sets.specs.Sets.{choose}
 use Rattle.words.specs.Answers.{word_list}
 use Rattle.set_words.specs.Given.{Tabled}
 use Rattle.counts.specs.Numbered.{product_of, most_numbers}
 use Rattle.set_words.specs.SetWords.{value_in}
-use Rattle.part_sums.specs.Counters.{counters_of}
 use Rattle.part_sums.specs.Stored.{places}
 use Rattle.part_sums.specs.Given.{Begun, Inside, Kept}
 use Rattle.projection_tables.specs.Tables.{Line, table_of, one_more, Rooms, fraction_at, lines_in}
@@ -54,13 +54,12 @@ count_all (v ∷ vs) ls = count_all vs (one_more v ls)
 abbrev pub values_from : Bool → Plan → List ℕ → List ℕ → List (List ℕ) → List Fraction
 values_from relative p rs P Is = map (λ I. value_in relative p rs (P ++ I)) Is
 
--- room for T of every set of up to f - 1 columns, and a counter for each combination of f columns, all zero
-pub record Lent (p : Plan) (f : ℕ) (parts : List ℤ) (counters : List ℕ) : Type 0 where
-  pub blank : parts ≡ replicate (length parts) (pos 0)
-  pub wide : places (columns p + 1) (f - 1) ≤ length parts
-  pub cleared : counters ≡ counters_of (length counters) []
-  pub short : length counters ≤ most_numbers
-  pub enough : (J : List ℕ) → Inside p J → length J ≤ f → product_of (level p) J ≤ length counters
+-- so many places hold T of every set of up to f - 1 columns, and there is a counter for each combination of f columns
+pub record Enough (p : Plan) (f parts counters : ℕ) : Type 0 where
+  pub wide : places (columns p + 1) (f - 1) ≤ parts
+  pub few : parts < 2 ^ 32
+  pub short : counters ≤ most_numbers
+  pub each : (J : List ℕ) → Inside p J → length J ≤ f → product_of (level p) J ≤ counters
 
 -- three rooms with the table of some values in their first places, and room for so many sets more
 pub record Tallied (more used : ℕ) (R : Rooms) : Type 0 where
@@ -87,15 +86,9 @@ pub record Wide (n : ℕ) (R : Rooms) : Type 0 where
   pub dens-wide : n ≤ length R.dens
   pub counts-wide : n ≤ length R.counts
 
--- whether column i has more than 5 levels
-abbrev pub is_high : List ℕ → ℕ → Bool
-is_high levels i = ltb 5 (get_or levels i 0)
-
 -- whether a room of 9³ places and 5⁴ counters are enough
 unfoldable pub is_little : List ℕ → ℕ → Bool
-is_little levels f =
-    let m = length levels in
-    cond (ltb (first (is_high levels) 0 m) m) false (cond (ltb m 9) true (ltb f 4))
+is_little levels f = list_all (λ s. leb s 5) levels && (leb (length levels) 8 || leb f 3)
 
 -- what a call for a table of some runs is given: they can be counted, and for a relative table their words stand beside them
 pub record Ranked (p : Plan) (rs : List ℕ) (words : List ℤ) (relative : Bool) : Type 0 where

@@ -1,5 +1,5 @@
 -- Document 01, "Strength, resolution, projections": projection frequency tables (source document 000), and three lent rooms.
-use Rattle.std.specs.Prelude.{Bool, cond, List, [], ◌∷◌, map, ℕ, ◌+◌, min, length, get_or}
+use Rattle.std.specs.Prelude.{Bool, cond, Result, List, [], ◌∷◌, map, ℕ, ◌+◌, min, length, get_or}
 use Rattle.exact.specs.Lists.{from, count, into}
 use Rattle.exact.specs.Fractions.{smaller_fraction, is_equal}
 use Rattle.exact.specs.declared.fractions.Fraction.{Fraction}
@@ -7,11 +7,10 @@ use Rattle.exact.specs.declared.fractions.Verdict.{Verdict}
 use Rattle.exact.specs.declared.fractions.Verdict.TheVariants.{Better, Worse, Equal}
 use Rattle.rules.specs.Plan.{Plan, columns, level, entry, every_column}
 use Rattle.rules.specs.declared.Refusal.{Refusal}
-use Rattle.rules.specs.Refusals.{Check, refusal, unless, bad_size, past_resolution, bad_room}
+use Rattle.rules.specs.Refusals.{Check, refusal, answered, unless, bad_size, past_resolution, bad_room}
 use Rattle.sets.specs.Sets.{choose}
 use Rattle.set_words.specs.SetWords.{value_of, relative_of}
 use Rattle.resolution.specs.Resolution.{resolution_in}
-use Rattle.projection_tables.specs.declared.TableAnswer.{TableAnswer}
 
 -- ---- a table: the distinct values, rising, each with its count
 -- (`IsTable` of Properties says it without the sort below, and there is only one such table: `table-only`)
@@ -109,10 +108,6 @@ shortest rooms = min (length rooms.nums) (min (length rooms.dens) (length rooms.
 abbrev pub bad_rooms : List Line → Rooms → Check
 bad_rooms lines rooms = bad_room (length lines) (shortest rooms)
 
--- the refusal, and beside it the number of lines
-abbrev pub table_beside : List Line → Refusal → TableAnswer
-table_beside lines r = record { refused = r; lines = unless r 0 (length lines) }
-
 -- the rooms beside a refusal, which leaves every room as it was
 abbrev pub rooms_beside : List Line → Rooms → Refusal → Rooms
 rooms_beside lines rooms r = unless r rooms (rooms_filled lines rooms)
@@ -125,9 +120,9 @@ module _ (p : Plan) (rs : List ℕ) where
   table_checks relative f rooms =
       bad_size (columns p) f ∷ past_resolution relative (resolution_in p rs) f ∷ bad_rooms (table_in relative p rs f) rooms ∷ []
 
-  -- the answer, and the rooms afterwards
-  unfoldable pub table_answer : (List Check → List Check) → Bool → ℕ → Rooms → TableAnswer
-  table_answer start relative f rooms = table_beside (table_in relative p rs f) (refusal (start (table_checks relative f rooms)))
+  -- the answer, which is the number of lines, and the rooms afterwards
+  unfoldable pub table_answer : (List Check → List Check) → Bool → ℕ → Rooms → Result ℕ Refusal
+  table_answer start relative f rooms = answered (refusal (start (table_checks relative f rooms))) (length (table_in relative p rs f))
 
   unfoldable pub table_rooms : (List Check → List Check) → Bool → ℕ → Rooms → Rooms
   table_rooms start relative f rooms = rooms_beside (table_in relative p rs f) rooms (refusal (start (table_checks relative f rooms)))

@@ -11,14 +11,8 @@ use run_words::words_wanted;
 
 pub mod routines;
 
-// The refusal, and beside it the number of lines put into the lent rooms, which is zero in a refusal.
-#[derive(Clone, Copy)]
-pub struct TableAnswer {
-    pub refused: Refusal,
-    pub lines: usize,
-}
-
-// The table for size f, absolute or relative, of every run of a plan. A relative table is refused by 16 where f is above R.
+// The table for size f, absolute or relative, of every run of a plan: its lines go into the lent rooms, and the answer is their number.
+// A relative table is refused by 16 where f is above R.
 pub fn frequencies(
     levels: &[u8],
     table: &[u8],
@@ -27,7 +21,7 @@ pub fn frequencies(
     nums: &mut [u64],
     dens: &mut [u64],
     counts: &mut [u64],
-) -> TableAnswer
+) -> Result<usize, Refusal>
     ensures answer { let p = plan levels.now table.now in
         let R = rooms nums.old dens.old counts.old in
         result ≡ table_answer p (every_run p) (of_plan p) relative f R }
@@ -35,15 +29,12 @@ pub fn frequencies(
         let R = rooms nums.old dens.old counts.old in
         rooms nums.new dens.new counts.new ≡ table_rooms p (every_run p) (of_plan p) relative f R }
 {
-    let checked = plan::routines::checked_runs(levels, table);
-    let runs = checked.runs;
-    let count = checked.count;
-    let words = words_wanted(relative, checked.refused, levels, table, &runs[..count]);
+    let runs = plan::routines::checked_runs(levels, table)?;
+    let words = words_wanted(relative, levels, table, runs.as_slice());
     routines::table_answer(
-        checked.refused,
         levels,
         table,
-        &runs[..count],
+        runs.as_slice(),
         &words,
         f,
         relative,
@@ -62,7 +53,7 @@ pub fn absolute(
     nums: &mut [u64],
     dens: &mut [u64],
     counts: &mut [u64],
-) -> TableAnswer
+) -> Result<usize, Refusal>
     ensures answer { let p = plan levels.now table.now in
         let R = rooms nums.old dens.old counts.old in
         result ≡ table_answer p (every_run p) (of_plan p) false f R }
@@ -81,7 +72,7 @@ pub fn relative(
     nums: &mut [u64],
     dens: &mut [u64],
     counts: &mut [u64],
-) -> TableAnswer
+) -> Result<usize, Refusal>
     ensures answer { let p = plan levels.now table.now in
         let R = rooms nums.old dens.old counts.old in
         result ≡ table_answer p (every_run p) (of_plan p) true f R }

@@ -1,25 +1,29 @@
 // For our own crates: the tables of some runs of a plan, each named by its number.
-ghost use Rattle.std.specs.Prelude.{◌≡◌, [], ◌∷◌, ◌+◌, ◌≤◌, ◌<◌, min, length, take};
+ghost use Rattle.std.specs.Prelude.{◌≡◌, [], ◌∷◌, ◌+◌, ◌≤◌, ◌<◌, leb, length, take};
+ghost use Rattle.std.specs.List.{list_all};
 ghost use Rattle.exact.specs.Lists.{into, first};
 ghost use Rattle.exact.specs.Fractions.{ShortDenominator};
 ghost use Rattle.rules.specs.Plan.{plan};
-ghost use Rattle.rules.specs.Refusals.{refusal, or_else};
+ghost use Rattle.rules.specs.Refusals.{refusal, answered};
 ghost use Rattle.sets.specs.Sets.{binom, choose};
 ghost use Rattle.set_words.specs.SetWords.{value_in};
 ghost use Rattle.set_words.specs.Given.{Tabled, SizeOf};
 ghost use Rattle.part_sums.specs.Counters.{counters_of};
 ghost use Rattle.part_sums.specs.Given.{Counting, Worded};
-ghost use Rattle.projection_tables.specs.Given.{Comparable, Fillable, Wide, Ranked, put_before, not_smaller, count_all, values_from, Tallied, Walking, Lent, is_high, is_little};
-ghost use Rattle.projection_tables.specs.Tables.{table_in, rooms, lines_in, one_more, rooms_filled, bad_rooms, table_checks, table_beside, rooms_beside};
+ghost use Rattle.projection_tables.specs.Given.{Comparable, Fillable, Wide, Ranked, put_before, not_smaller, count_all, values_from, Tallied, Walking, Enough, is_little};
+ghost use Rattle.projection_tables.specs.Tables.{table_in, rooms, lines_in, one_more, rooms_filled, bad_rooms, table_checks, rooms_beside};
 
-use crate::TableAnswer;
-use exact::fractions::{Fraction, is_better, is_equal, smaller_fraction};
+use exact::fractions::{Fraction, Verdict, smaller_fraction};
+use exact::lent::copy;
+use exact::listed::Numbers;
 use part_sums::prepared::{entries, every_number};
 use part_sums::{fill_room, word};
 use parts::longer;
 use rules::Refusal;
+use rules::sizes::MOST_COLUMNS;
 use run_words::check_relative;
 use set_words::routines::value;
+use sets::routines::check_size;
 
 // Puts x in before place `at` of the first `used`; the next place after those is free.
 fn put_before(room: &mut [u64], used: usize, at: usize, x: u64)
@@ -48,7 +52,7 @@ fn place_of(nums: &[u64], dens: &[u64], used: usize, value: Fraction) -> usize
             num: nums[middle],
             den: dens[middle],
         };
-        if is_better(smaller_fraction(line, value)) {
+        if smaller_fraction(line, value) == Verdict::Better {
             low = middle + 1;
         } else {
             high = middle;
@@ -78,7 +82,7 @@ fn count_value(
             num: nums[at],
             den: dens[at],
         };
-        if is_equal(smaller_fraction(line, value)) {
+        if smaller_fraction(line, value) == Verdict::Equal {
             counts[at] = counts[at] + 1;
             return used;
         }
@@ -218,22 +222,20 @@ fn walk(
     )
 }
 
-// The table for size f, with lent room for the parts of the sets and for the counters. The answer is the number of lines.
-fn tabulate_in(
+// The table for size f, with PARTS places for the parts of the sets and COUNTERS counters. The answer is the number of lines.
+fn tabulate_in<const PARTS: usize, const COUNTERS: usize>(
     levels: &[u8],
     table: &[u8],
     runs: &[usize],
     f: usize,
     relative: bool,
-    parts: &mut [i64],
-    counters: &mut [u16],
     nums: &mut [u64],
     dens: &mut [u64],
     counts: &mut [u64],
 ) -> usize
     requires tabled { Tabled (plan levels.now table.now) runs.now
         × (SizeOf (length levels.now) f × Wide (binom (length levels.now) f) (rooms nums.old dens.old counts.old)) }
-    requires lent { Lent (plan levels.now table.now) f parts.old counters.old }
+    requires enough { Enough (plan levels.now table.now) f PARTS COUNTERS }
     ensures lines { let p = plan levels.now table.now in
         result ≡ length (table_in relative p runs.now f) }
     ensures table { let p = plan levels.now table.now in
@@ -242,11 +244,14 @@ fn tabulate_in(
 {
     let m = levels.len();
     let n = runs.len();
-    let columns = plan::routines::every_run(m);
-    let digits = entries(levels, table, runs, &columns[..m]);
+    let every = Numbers::<MOST_COLUMNS>::first(m);
+    let columns = every.as_slice();
+    let digits = entries(levels, table, runs, columns);
     let all = every_number();
     let set = [0usize; 4];
     let numbers = [0u16; 256];
+    let mut parts = [0i64; PARTS];
+    let mut counters = [0u16; COUNTERS];
     fill_room(
         levels,
         table,
@@ -254,9 +259,9 @@ fn tabulate_in(
         &digits[..m * n],
         &all,
         f - 1,
-        &columns[..m],
-        parts,
-        counters,
+        columns,
+        &mut parts,
+        &mut counters,
     );
     walk(
         levels,
@@ -266,14 +271,14 @@ fn tabulate_in(
         &all,
         f,
         relative,
-        &columns[..m],
+        columns,
         f,
         set,
         0,
         1,
         &numbers[..n],
-        parts,
-        counters,
+        &parts,
+        &mut counters,
         nums,
         dens,
         counts,
@@ -281,30 +286,19 @@ fn tabulate_in(
     )
 }
 
-// The first column of more than 5 levels, and the number of columns where there is none.
-fn first_high(levels: &[u8]) -> usize
-    ensures { result ≡ first (is_high levels.now) 0 (length levels.now) }
+// Whether no column has more than 5 levels.
+fn is_low(levels: &[u8]) -> bool
+    ensures { result ≡ list_all (λ s. leb s 5) levels.now }
 {
-    for i in 0..levels.len() {
-        if 5 < levels[i] {
-            return i;
-        }
-    }
-    levels.len()
+    levels.iter().all(|s| *s <= 5)
 }
 
 // Whether small rooms are enough: up to 8 columns, or sets of up to 3 of them, and no column of more than 5 levels.
+#[tactic(auto, unfolding(crate::specs::Given::is_little))]
 fn is_little(levels: &[u8], f: usize) -> bool
     ensures { result ≡ is_little levels.now f }
 {
-    let m = levels.len();
-    if first_high(levels) < m {
-        return false;
-    }
-    if m < 9 {
-        return true;
-    }
-    f < 4
+    is_low(levels) && (levels.len() <= 8 || f <= 3)
 }
 
 // The table for size f, in the first places of three rooms: one walk over the sets. The answer is the number of lines.
@@ -327,51 +321,10 @@ fn tabulate(
         rooms nums.new dens.new counts.new ≡ rooms_filled (table_in relative p runs.now f) R }
 {
     if is_little(levels, f) {
-        let mut parts = [0i64; 729];
-        let mut counters = [0u16; 625];
-        return tabulate_in(
-            levels,
-            table,
-            runs,
-            f,
-            relative,
-            &mut parts,
-            &mut counters,
-            nums,
-            dens,
-            counts,
-        );
+        tabulate_in::<729, 625>(levels, table, runs, f, relative, nums, dens, counts)
+    } else {
+        tabulate_in::<15625, 65536>(levels, table, runs, f, relative, nums, dens, counts)
     }
-    let mut parts = [0i64; 15625];
-    let mut counters = [0u16; 65536];
-    tabulate_in(
-        levels,
-        table,
-        runs,
-        f,
-        relative,
-        &mut parts,
-        &mut counters,
-        nums,
-        dens,
-        counts,
-    )
-}
-
-// The first n numbers go into the front of a lent room, and the rest of it stays.
-fn copy_into(xs: &[u64], n: usize, room: &mut [u64])
-    requires { (n ≤ length xs.now) × (n ≤ length room.old) }
-    ensures { room.new ≡ into (take n xs.now) room.old }
-{
-    for i in 0..n {
-        room[i] = xs[i];
-    }
-}
-
-fn smaller(a: usize, b: usize) -> usize
-    ensures { result ≡ min a b }
-{
-    if a < b { a } else { b }
 }
 
 // The table for size f in three lent rooms, and the number of its lines; refusal 7 where a room is too short. Nothing is written before
@@ -385,12 +338,12 @@ fn in_own_rooms(
     nums: &mut [u64],
     dens: &mut [u64],
     counts: &mut [u64],
-) -> TableAnswer
+) -> Result<usize, Refusal>
     requires { Tabled (plan levels.now table.now) runs.now × SizeOf (length levels.now) f }
     ensures answer { let p = plan levels.now table.now in
         let ls = table_in relative p runs.now f in
         let R = rooms nums.old dens.old counts.old in
-        result ≡ table_beside ls (refusal (bad_rooms ls R ∷ [])) }
+        result ≡ answered (refusal (bad_rooms ls R ∷ [])) (length ls) }
     ensures rooms { let p = plan levels.now table.now in
         let ls = table_in relative p runs.now f in
         let R = rooms nums.old dens.old counts.old in
@@ -409,19 +362,13 @@ fn in_own_rooms(
         &mut unders,
         &mut sets,
     );
-    if smaller(nums.len(), smaller(dens.len(), counts.len())) < lines {
-        return TableAnswer {
-            refused: Refusal::plain(7),
-            lines: 0,
-        };
+    if nums.len().min(dens.len()).min(counts.len()) < lines {
+        return Err(Refusal::plain(7));
     }
-    copy_into(&values, lines, nums);
-    copy_into(&unders, lines, dens);
-    copy_into(&sets, lines, counts);
-    TableAnswer {
-        refused: Refusal::accepted(),
-        lines,
-    }
+    copy(&values[..lines], nums);
+    copy(&unders[..lines], dens);
+    copy(&sets[..lines], counts);
+    Ok(lines)
 }
 
 // The same. Rooms that hold a line for every set are never too short, and the table is made in them.
@@ -434,32 +381,26 @@ pub fn frequencies(
     nums: &mut [u64],
     dens: &mut [u64],
     counts: &mut [u64],
-) -> TableAnswer
+) -> Result<usize, Refusal>
     requires { Tabled (plan levels.now table.now) runs.now × SizeOf (length levels.now) f }
     ensures answer { let p = plan levels.now table.now in
         let ls = table_in relative p runs.now f in
         let R = rooms nums.old dens.old counts.old in
-        result ≡ table_beside ls (refusal (bad_rooms ls R ∷ [])) }
+        result ≡ answered (refusal (bad_rooms ls R ∷ [])) (length ls) }
     ensures rooms { let p = plan levels.now table.now in
         let ls = table_in relative p runs.now f in
         let R = rooms nums.old dens.old counts.old in
         rooms nums.new dens.new counts.new ≡ rooms_beside ls R (refusal (bad_rooms ls R ∷ [])) }
 {
     let sets = sets::routines::binomial(levels.len(), f);
-    if smaller(nums.len(), smaller(dens.len(), counts.len())) < sets {
+    if nums.len().min(dens.len()).min(counts.len()) < sets {
         return in_own_rooms(levels, table, runs, f, relative, nums, dens, counts);
     }
-    let lines = tabulate(levels, table, runs, f, relative, nums, dens, counts);
-    TableAnswer {
-        refused: Refusal::accepted(),
-        lines,
-    }
+    Ok(tabulate(levels, table, runs, f, relative, nums, dens, counts))
 }
 
-// The answer for some runs of a plan, behind the refusal that the call begins with: 6, of the size, then 16, and 7 last. Only the
-// check of a relative table looks at the words.
+// The answer for some runs of a plan: 6, of the size, then 16, and 7 last. Only the check of a relative table looks at the words.
 pub fn table_answer(
-    refused: Refusal,
     levels: &[u8],
     table: &[u8],
     runs: &[usize],
@@ -469,25 +410,18 @@ pub fn table_answer(
     nums: &mut [u64],
     dens: &mut [u64],
     counts: &mut [u64],
-) -> TableAnswer
-    requires { refused.number ≡ 0 → Ranked (plan levels.now table.now) runs.now words.now relative }
+) -> Result<usize, Refusal>
+    requires { Ranked (plan levels.now table.now) runs.now words.now relative }
     ensures answer { let p = plan levels.now table.now in
         let rs = runs.now in
         let R = rooms nums.old dens.old counts.old in
-        result ≡ table_beside (table_in relative p rs f) (or_else refused (refusal (table_checks p rs relative f R))) }
+        result ≡ answered (refusal (table_checks p rs relative f R)) (length (table_in relative p rs f)) }
     ensures rooms { let p = plan levels.now table.now in
         let rs = runs.now in
         let R = rooms nums.old dens.old counts.old in
-        rooms nums.new dens.new counts.new
-        ≡ rooms_beside (table_in relative p rs f) R (or_else refused (refusal (table_checks p rs relative f R))) }
+        rooms nums.new dens.new counts.new ≡ rooms_beside (table_in relative p rs f) R (refusal (table_checks p rs relative f R)) }
 {
-    let refused = refused.or_else(sets::routines::check_size(levels.len(), f));
-    if refused.number != 0 {
-        return TableAnswer { refused, lines: 0 };
-    }
-    let refused = check_relative(relative, words, levels.len(), f);
-    if refused.number != 0 {
-        return TableAnswer { refused, lines: 0 };
-    }
+    check_size(levels.len(), f)?;
+    check_relative(relative, words, levels.len(), f)?;
     frequencies(levels, table, runs, f, relative, nums, dens, counts)
 }

@@ -13,8 +13,8 @@ pub(crate) fn field<W: Write>(output: &mut W, number: u64) {
 
 pub(crate) fn line<W: Write>(output: &mut W, name: &[u8], numbers: &[u64]) {
     put(output, name);
-    for k in 0..numbers.len() {
-        field(output, numbers[k]);
+    for number in numbers {
+        field(output, *number);
     }
     put(output, b"\n");
 }

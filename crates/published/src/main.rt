@@ -34,15 +34,14 @@ fn show_plan<W: Write>(output: &mut W, name: &[u8], levels: &[u8], table: &[u8])
 fn show_text<W: Write>(output: &mut W, name: &[u8], text: &[u8]) {
     let mut levels = [0u8; MOST_COLUMNS];
     let mut table = [0u8; MOST_ENTRIES];
-    let answer = text::read(text, &mut levels, &mut table);
-    let refused = answer.refused;
-    if refused.number != 0 {
-        refusal_line(output, refused);
-        return;
+    match text::read(text, &mut levels, &mut table) {
+        Ok(read) => {
+            let m = read.columns;
+            let entries = read.runs * m;
+            show_plan(output, name, &levels[..m], &table[..entries]);
+        }
+        Err(refused) => refusal_line(output, refused),
     }
-    let m = answer.columns;
-    let entries = answer.runs * m;
-    show_plan(output, name, &levels[..m], &table[..entries]);
 }
 
 fn show_file<R: Env + Files, O: Write, E: Write>(

@@ -1,8 +1,8 @@
 // The projection frequency tables of an array, absolute and relative.
-ghost use Rattle.std.specs.Prelude.{◌≤◌};
+ghost use Rattle.std.specs.Prelude.{◌≤◌, IfOk};
 
 use crate::lines::{line, refusal_line};
-use projection_tables::TableAnswer;
+use rules::Refusal;
 use std::io::Write;
 
 // Of the 10,626 lines that a table can have, none of these arrays has more. One that had would print refusal 7.
@@ -12,20 +12,21 @@ fn table_lines<W: Write>(
     output: &mut W,
     name: &[u8],
     f: usize,
-    answer: TableAnswer,
+    answer: Result<usize, Refusal>,
     nums: &[u64; MOST_LINES],
     dens: &[u64; MOST_LINES],
     counts: &[u64; MOST_LINES],
 )
-    requires { answer.lines ≤ 64 }
+    requires { IfOk answer (λ lines. lines ≤ 64) }
 {
-    if answer.refused.number != 0 {
-        refusal_line(output, answer.refused);
-        return;
-    }
-    for k in 0..answer.lines {
-        let numbers = [f as u64, nums[k], dens[k], counts[k]];
-        line(output, name, &numbers);
+    match answer {
+        Ok(lines) => {
+            for ((num, den), count) in nums[..lines].iter().zip(dens).zip(counts) {
+                let numbers = [f as u64, *num, *den, *count];
+                line(output, name, &numbers);
+            }
+        }
+        Err(refused) => refusal_line(output, refused),
     }
 }
 

@@ -4,7 +4,6 @@ use Rattle.exact.proofs.Ground.{refl, subst}
 use Rattle.exact.specs.Fractions.{zero_fraction, smaller_fraction, is_better}
 use Rattle.exact.specs.declared.fractions.Fraction.{Fraction}
 use Rattle.exact.proofs.Lists.{grown}
-use Rattle.exact.proofs.Lawful.{fractions}
 use Rattle.ratios.specs.Ratios.{greater, greatest_from, greatest}
 
 from-snoc : (x : Fraction) (ys : List Fraction) (y : Fraction) → greatest_from x (ys ++ y ∷ []) ≡ greater (greatest_from x ys) y

@@ -3,13 +3,13 @@ use Rattle.exact.proofs.Ground.{true, false, Bool, cond, List, [], ◌∷◌, ma
 use Rattle.exact.proofs.Ground.{append_assoc, mem-of_map, append-nil, mem-append_left, mem-append_right, mem-map, ◌≡◌, ◌∙◌, sym, ap, refl, subst}
 use Rattle.exact.proofs.Ground.{ℕ, ◌≤◌, ◌<◌, ◌-◌, ◌+◌, suc, zero, add-one, arith, length, get_or, take, drop, take_at, take-suc}
 use mathlib.Core.List.{map-append}
-use Rattle.exact.specs.Lists.{from, holds, keep}
+use Rattle.exact.specs.Lists.{holds, keep}
 use Rattle.exact.specs.Fractions.{ShortDenominator, zero_fraction}
 use Rattle.exact.specs.declared.fractions.Fraction.{Fraction}
 use Rattle.exact.proofs.Lists.{keep-++}
 use Rattle.exact.proofs.Members.{get_or-mem}
 use Rattle.exact.proofs.Rooms.{map-++}
-use Rattle.rules.specs.Plan.{Plan, columns, level, entry}
+use Rattle.rules.specs.Plan.{Plan, level, entry}
 use Rattle.sets.specs.Sets.{binom, choose}
 use Rattle.sets.proofs.Parts.{choose-part}
 use Rattle.sets.proofs.Pascal.{length-choose, binom-above}

@@ -29,10 +29,10 @@ fn greater(x: Fraction, y: Fraction) -> Fraction
     requires { (ShortDenominator x) × (ShortDenominator y) }
     ensures { result ≡ greater x y }
 {
-    match smaller_fraction(x, y) {
-        Verdict::Better => y,
-        Verdict::Worse => x,
-        Verdict::Equal => x,
+    if smaller_fraction(x, y) == Verdict::Better {
+        y
+    } else {
+        x
     }
 }
 
@@ -79,9 +79,8 @@ fn last_columns(
     let n = numbers.len();
     let mut with = set;
     let mut ratios = best;
-    for k in 0..rest.len() {
-        let i = rest[k];
-        with[depth] = i;
+    for (k, i) in rest.iter().enumerate() {
+        with[depth] = *i;
         let columns = &with[..depth + 1];
         let ratio = set_ratios::ratio(
             levels,
@@ -89,7 +88,7 @@ fn last_columns(
             runs,
             columns,
             numbers,
-            levels[i],
+            levels[*i],
             &digits[k * n..],
             counters,
         );
@@ -202,6 +201,38 @@ fn ratios_in(
     )
 }
 
+// The same, in rooms of so many digits and counters.
+fn in_rooms<const DIGITS: usize, const COUNTERS: usize>(
+    levels: &[u8],
+    table: &[u8],
+    runs: &[usize],
+    columns: &[usize],
+    size: usize,
+    column: usize,
+) -> Ratios
+    requires tabled { Tabled (plan levels.now table.now) runs.now
+        × (Projection (plan levels.now table.now) columns.now × (length columns.now ≤ most_columns)) }
+    requires le_size { (1 ≤ size) × (size ≤ most_columns) }
+    requires fact { let p = plan levels.now table.now in NoneShorter (level p) (entry p) runs.now columns.now size }
+    requires digits_in_bounds { (most_columns * length runs.now ≤ DIGITS) × (DIGITS ≤ 6144) }
+    requires counters_in_bounds { (16 * length runs.now ≤ COUNTERS) × (COUNTERS ≤ 4096) }
+    ensures { let p = plan levels.now table.now in
+        result ≡ ratios_of p runs.now (choose size columns.now) column }
+{
+    let mut digits = [0; DIGITS];
+    let mut counters = [0; COUNTERS];
+    ratios_in(
+        levels,
+        table,
+        runs,
+        columns,
+        size,
+        column,
+        &mut digits,
+        &mut counters,
+    )
+}
+
 // The same of sets that have no shorter word. Up to 32 runs small rooms are enough.
 pub fn ratios_of(
     levels: &[u8],
@@ -219,29 +250,7 @@ pub fn ratios_of(
         result ≡ ratios_of p runs.now (choose size columns.now) column }
 {
     if runs.len() <= 32 {
-        let mut digits = [0u8; 768];
-        let mut counters = [0u16; 512];
-        return ratios_in(
-            levels,
-            table,
-            runs,
-            columns,
-            size,
-            column,
-            &mut digits,
-            &mut counters,
-        );
+        return in_rooms::<768, 512>(levels, table, runs, columns, size, column);
     }
-    let mut digits = [0u8; 6144];
-    let mut counters = [0u16; 4096];
-    ratios_in(
-        levels,
-        table,
-        runs,
-        columns,
-        size,
-        column,
-        &mut digits,
-        &mut counters,
-    )
+    in_rooms::<6144, 4096>(levels, table, runs, columns, size, column)
 }

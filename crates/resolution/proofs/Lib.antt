@@ -10,5 +10,4 @@ pub mod Cases
 pub mod Rated
 pub mod Answered
 pub mod OneLevel
-pub mod WholePlan
 pub mod Figures

@@ -1,6 +1,7 @@
 -- A column of one level has no part in a largest ratio: the sets that hold it have the value 0/1, which is never the greater. It is clear.
 use Rattle.exact.proofs.Ground.{true, false, Bool, cond, List, [], ◌∷◌, map, Memᴰ, mem-head, mem-tail, mem-of_map, mem-map, ◌≡◌}
 use Rattle.exact.proofs.Ground.{◌∙◌, sym, ap, refl, ap₂, subst, ℕ, ◌≤◌, ◌<◌, ◌*◌, zero-mul, arith, ltb, le-ltb}
+use Rattle.std.specs.Prelude.{None}
 use Rattle.exact.specs.Lists.{all, keep, holds}
 use Rattle.exact.specs.Fractions.{zero_fraction, smaller_fraction, is_better}
 use Rattle.exact.specs.declared.fractions.Fraction.{Fraction}
@@ -17,7 +18,6 @@ use Rattle.set_words.proofs.Values.{relative-one}
 use Rattle.resolution.specs.Resolution.{greatest, resolution_in}
 use Rattle.ratios.specs.Ratios.{ratios_of}
 use Rattle.resolution.specs.Charts.{figure_of, column_ratio}
-use Rattle.resolution.specs.declared.Figure.TheVariants.{Clear}
 use Rattle.ratios.specs.Ratios.{greater, greatest_from}
 use Rattle.ratios.proofs.Greatest.{greatest-of}
 
@@ -62,13 +62,14 @@ walk-several p rs low j i =
     let cols = every_column p in
     let kept = ratios-several (level p) (entry p) rs cols (λ i m. low i (omega (arith, mem-from 0 (columns p) m))) in
     let ratio = relative_of (level p) (entry p) rs in
-    let every : (Is : List (List ℕ)) → greatest (map ratio (keep (λ I. true) Is)) ≡ greatest (map ratio Is) = λ Is. ap (λ l. greatest (map ratio l)) (keep_all Is) in
+    let every : (Is : List (List ℕ)) → greatest (map ratio (keep (λ I. true) Is)) ≡ greatest (map ratio Is)
+    = λ Is. ap (λ l. greatest (map ratio l)) (keep_all Is) in
     sym (ap₂ (λ x y. record { largest = x; held = y })
     (sym (every (choose j cols)) ∙ kept (λ I. true) j ∙ every (choose j (several (level p) cols)))
     (kept (holds i) j))
 
 -- a column of one level is clear
-pub one-level-clear : (p : Plan) (rs : List ℕ) (i : ℕ) → level p i ≡ 1 → figure_of (column_ratio p rs i) ≡ Clear
+pub one-level-clear : (p : Plan) (rs : List ℕ) (i : ℕ) → level p i ≡ 1 → figure_of (column_ratio p rs i) ≡ None
 unfolding column_ratio
 one-level-clear p rs i e =
     let sets = sets_of (columns p) (resolution_in p rs) in

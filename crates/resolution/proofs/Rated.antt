@@ -1,12 +1,12 @@
--- A rating of some runs by the check 11, what the routine finds of it, and that its numbers are small.
-use Rattle.exact.proofs.Ground.{true, false, Bool, cond, List, ◌≡◌, ◌∙◌, sym, ap, refl, ℕ, ◌≤◌, ◌<◌, ◌+◌, ◌*◌, ◌^◌, ℕ_discrete, dec_le, arith, ℤ}
-use Rattle.exact.proofs.Ground.{nat_abs, length, ne_eqb, le-ltb, lt-ltb, le-leb, lt-leb}
+-- What the routine finds of the measures of some runs, and that these are small.
+use Rattle.exact.proofs.Ground.{List, ◌≡◌, ◌∙◌, sym, ap, refl, ℕ, ◌≤◌, ◌<◌, ◌+◌, ◌*◌, ◌^◌, dec_le, arith, ℤ}
+use Rattle.exact.proofs.Ground.{nat_abs, length, le-ltb, lt-ltb, le-leb, lt-leb}
 use Rattle.exact.specs.Lists.{keep, holds}
 use Rattle.exact.proofs.Numbers.{length_from, mul-below}
 use Rattle.exact.proofs.Members.{keep-mem}
+use Rattle.std.specs.Prelude.{Ok, Err}
+use Rattle.rules.specs.Refusals.{refusal, answered, plain}
 use Rattle.rules.specs.Plan.{Plan, columns, level, entry, every_column, most_columns, most_runs}
-use Rattle.rules.specs.Refusals.{refusal, refuses, or_else, plain, accepted}
-use Rattle.rules.specs.declared.Refusal.{Refusal}
 use Rattle.sets.specs.Sets.{sets_of}
 use Rattle.sets.proofs.Parts.{part-all}
 use Rattle.words.specs.Words.{word}
@@ -16,13 +16,12 @@ use Rattle.words.proofs.Answered.{word_at}
 use Rattle.set_words.specs.Given.{Tabled}
 use Rattle.set_words.proofs.Products.{part-projection}
 use Rattle.resolution.specs.Resolution.{resolution_in, ratio_in, resolution_checks, largest_ratio}
-use Rattle.resolution.specs.Charts.{column_ratio, column_checks}
+use Rattle.resolution.specs.Charts.{column_ratio}
 use Rattle.ratios.specs.Ratios.{ratios_of}
-use Rattle.resolution.specs.Given.{Measured, word_in, first_above, refusing, measures, measures_beside, rating_beside, Small}
+use Rattle.resolution.specs.Given.{Measured, word_in, first_above, measures, Small}
 use Rattle.resolution.proofs.Resolved.{resolution-is, resolution-words}
 use Rattle.resolution.proofs.Walk.{ratios-small}
 use Rattle.resolution.proofs.AtMostOne.{ratio-at-most-one}
-use Rattle.resolution.specs.declared.routines.Rating.{Rating}
 use Rattle.ratios.specs.declared.Ratios.{Ratios}
 
 -- ---- the words of a list, whatever the length
@@ -35,36 +34,21 @@ word_read p rs h j l = go (dec_le j most_columns)
     go (yes k) = rw (le-leb j most_columns k) (word_at p rs j l k)
     go (no k) = rw (lt-leb j most_columns (omega arith)) (sym (word_none p rs j (omega arith)))
 
-refusing-small : (r : Refusal) → Small (refusing r)
-refusing-small r = record {
-  length = omega arith;
-  at_most_one = omega arith;
-  short = omega arith;
-  held-num = omega arith;
-  held-den = omega arith;
-  word = omega arith;
-  next = omega arith;
-  pairs = omega arith;
-}
+-- ---- the ratios of the sets of R columns
 
--- ---- a rating by the check 11
+ratios-are : (p : Plan) (rs : List ℕ) (i : ℕ) →
+    ratios_of p rs (sets_of (columns p) (resolution_in p rs)) i ≡ record { largest = ratio_in p rs; held = column_ratio p rs i }
+unfolding ratios_of largest_ratio column_ratio
+ratios-are p rs i = refl
 
-module _ (p : Plan) (rs : List ℕ) (i : ℕ) where
-  abbrev pub own : Rating
-  own = measures_beside p rs i (refusal (resolution_checks p rs))
+-- ---- by the check 11
 
-  pub rating-none : columns p < resolution_in p rs → refusing (plain 11) ≡ own
-  unfolding measures_beside
-  rating-none h = rw (lt-ltb (columns p) (resolution_in p rs) h)
+module _ (p : Plan) (rs : List ℕ) {A : Type 0} where
+  pub rating-none : columns p < resolution_in p rs → (x : A) → Err (plain 11) ≡ answered (refusal (resolution_checks p rs)) x
+  rating-none h x = rw (lt-ltb (columns p) (resolution_in p rs) h)
 
-  rating-is : resolution_in p rs ≤ columns p → measures p rs i accepted ≡ own
-  unfolding measures_beside
-  rating-is h = rw (le-ltb (columns p) (resolution_in p rs) h)
-
-  -- the ratios of the sets of R columns
-  ratios-are : ratios_of p rs (sets_of (columns p) (resolution_in p rs)) i ≡ record { largest = ratio_in p rs; held = column_ratio p rs i }
-  unfolding ratios_of largest_ratio column_ratio
-  ratios-are = refl
+  pub rating-is : resolution_in p rs ≤ columns p → (x : A) → Ok x ≡ answered (refusal (resolution_checks p rs)) x
+  rating-is h x = rw (le-ltb (columns p) (resolution_in p rs) h)
 
 -- ---- what the routine finds: r, the ratios q, the words w and v
 
@@ -85,10 +69,9 @@ module _ (p : Plan) (rs : List ℕ) (i r : ℕ) (q : Ratios) (e : r ≡ resoluti
   ratios : q ≡ record { largest = ratio_in p rs; held = column_ratio p rs i }
   ratios = d ∙ ap (λ r. ratios_of p rs (sets_of (columns p) r) i) e ∙ ratios-are p rs i
 
-  pub found-is : (w v : ℤ) → r ≤ columns p →
+  pub found-is : (w v : ℤ) →
       w ≡ word (level p) (entry p) rs (every_column p) r → v ≡ word (level p) (entry p) rs (every_column p) (r + 1) →
       record {
-        refused = accepted;
         columns = columns p;
         pairs = length rs * length rs;
         resolution = r;
@@ -96,8 +79,9 @@ module _ (p : Plan) (rs : List ℕ) (i r : ℕ) (q : Ratios) (e : r ≡ resoluti
         next = v;
         largest = q.largest;
         held = q.held;
-      } ≡ own p rs i
-  found-is w v h f g = rw (f, g, ratios, e) (rating-is p rs i (rw e at h))
+      } ≡ measures p rs i
+  unfolding measures
+  found-is w v f g = rw (f, g, ratios, e) refl
 
 -- ---- its numbers are small
 
@@ -108,9 +92,9 @@ module _ (p : Plan) (rs : List ℕ) (i : ℕ) (G : Tabled p rs) where
   word-exact : (j : ℕ) → nat_abs (word (level p) (entry p) rs (every_column p) j) ≤ 2 ^ 53
   word-exact j = omega (arith, word_small p rs G.sound j)
 
-  measures-small : (r : Refusal) → Small (measures p rs i r)
-  unfolding largest_ratio column_ratio
-  measures-small r =
+  pub measures-small : Small (measures p rs i)
+  unfolding measures largest_ratio column_ratio
+  measures-small =
       let K = part-projection p G.sound.level-low G.sound.small (every_column p) (part-all (every_column p)) in
       let small = ratios-small p rs (every_column p) G K (resolution_in p rs) low in
       let L = small (sets_of (columns p) (resolution_in p rs)) (λ I m. m) in
@@ -125,20 +109,3 @@ module _ (p : Plan) (rs : List ℕ) (i : ℕ) (G : Tabled p rs) where
         next = word-exact (resolution_in p rs + 1);
         pairs = omega (arith, mul-below (length rs) (length rs) most_runs most_runs G.sound.few G.sound.few);
       }
-
-  beside-small : (r : Refusal) → Small (measures_beside p rs i r)
-  unfolding measures_beside
-  beside-small r = go (refuses r)
-    where
-      go : (b : Bool) → Small (cond b (refusing r) (measures p rs i r))
-      go true = refusing-small r
-      go false = measures-small r
-
--- behind the refusal r that the call begins with
-pub rating-small : (p : Plan) (rs : List ℕ) (r : Refusal) (i : ℕ) → (r.number ≡ 0 → Tabled p rs) → Small (rating_beside p rs r i)
-unfolding measures_beside
-rating-small p rs r i tabled = go (ℕ_discrete r.number 0)
-  where
-    go : Dec (r.number ≡ 0) → Small (rating_beside p rs r i)
-    go (yes z) = beside-small p rs i (tabled z) (or_else r (refusal (column_checks p rs i)))
-    go (no n) = rw (ne_eqb r.number 0 n, ne_eqb r.number 0 n) (refusing-small r)

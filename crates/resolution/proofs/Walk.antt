@@ -1,6 +1,5 @@
 -- The ratios of the sets of some size have short denominators, and an f64 holds them.
 use Rattle.exact.proofs.Ground.{true, List, map, Memᴰ, mem-of_map, subst, ℕ, ◌≤◌, ◌^◌, arith}
-use Rattle.exact.specs.Lists.{holds}
 use Rattle.exact.specs.Fractions.{ShortDenominator}
 use Rattle.exact.specs.declared.fractions.Fraction.{Fraction}
 use Rattle.rules.specs.Plan.{Plan, level, entry}

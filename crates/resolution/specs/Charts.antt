@@ -1,21 +1,17 @@
 -- Document 01, "Strength, resolution, projections": chart figures, each one division of two whole numbers that an f64 holds exactly.
-use Rattle.std.specs.Prelude.{false, cond, List, ◌∷◌, map, ℕ, ◌+◌, ◌*◌, eqb, ℤ, pos, length, Float}
-use Rattle.std.proofs.Math.Option.{Option, none, some}
+use Rattle.std.specs.Prelude.{false, cond, Option, Some, None, Result, Ok, Err, List, ◌∷◌, map, ℕ, ◌+◌, ◌*◌, eqb, ℤ, pos, length, Float}
 use Rattle.std.specs.Float.{fin, binary64}
 use Rattle.std.specs.Float.Ieee.{of_int, div}
 use Rattle.exact.specs.Lists.{keep, holds}
 use Rattle.exact.specs.declared.fractions.Fraction.{Fraction}
 use Rattle.rules.specs.Plan.{Plan, columns, level, entry, every_column}
-use Rattle.rules.specs.Refusals.{Check, refusal, unless, bad_place}
+use Rattle.rules.specs.declared.Refusal.{Refusal}
+use Rattle.rules.specs.Refusals.{Check, refusal, answered, bad_place}
 use Rattle.sets.specs.Sets.{choose}
 use Rattle.words.specs.Words.{word}
 use Rattle.set_words.specs.SetWords.{relative_of}
 use Rattle.resolution.specs.Resolution.{greatest, resolution_in, ratio_in, resolution_checks}
 use Rattle.resolution.specs.declared.Chart.{Chart}
-use Rattle.resolution.specs.declared.Figure.{Figure}
-use Rattle.resolution.specs.declared.Figure.TheVariants.{Ratio, Clear}
-use Rattle.resolution.specs.declared.ChartAnswer.{ChartAnswer}
-use Rattle.resolution.specs.declared.FigureAnswer.{FigureAnswer}
 
 -- the f64 nearest to num / den
 unfoldable pub quotient : ℤ → ℕ → Float
@@ -24,17 +20,14 @@ quotient num den = div binary64 (of_int binary64 num) (of_int binary64 (pos den)
 abbrev pub zero_figure : Float
 zero_figure = fin false 0 (pos 0)
 
-abbrev pub zero_chart : Chart
-zero_chart = record { word = zero_figure; next = zero_figure; ratio = zero_figure }
+-- what an answer for a column's figure says: its f64, and none for the word clear, which a refusal says too
+abbrev pub figure_says : Result (Option Float) Refusal → Option Float
+figure_says (Ok figure) = figure
+figure_says (Err r) = None
 
--- what a column's figure says: its f64, and none for the word clear
-abbrev pub figure_says : Figure → Option Float
-figure_says (Ratio x) = some x
-figure_says Clear = none
-
--- the ratio as a figure, clear where it is zero
-abbrev pub figure_of : Fraction → Figure
-figure_of x = cond (eqb x.num 0) Clear (Ratio (quotient (pos x.num) x.den))
+-- the ratio as a figure, and none where it is zero: a figure that is clear
+abbrev pub figure_of : Fraction → Option Float
+figure_of x = cond (eqb x.num 0) None (Some (quotient (pos x.num) x.den))
 
 module _ (p : Plan) (rs : List ℕ) where
   -- the word at length j as a figure
@@ -52,8 +45,8 @@ module _ (p : Plan) (rs : List ℕ) where
         ratio = quotient (pos x.num) x.den;
       }
 
-  unfoldable pub chart_answer : (List Check → List Check) → ChartAnswer
-  chart_answer start = let r = refusal (start (resolution_checks p rs)) in record { refused = r; chart = unless r zero_chart chart_of }
+  unfoldable pub chart_answer : (List Check → List Check) → Result Chart Refusal
+  chart_answer start = answered (refusal (start (resolution_checks p rs))) chart_of
 
   -- the largest ratio over sets of R columns holding column i
   unfoldable pub column_ratio : ℕ → Fraction
@@ -64,5 +57,5 @@ module _ (p : Plan) (rs : List ℕ) where
   column_checks i = bad_place (columns p) i ∷ resolution_checks p rs
 
   -- column i's figure
-  unfoldable pub figure_answer : (List Check → List Check) → ℕ → FigureAnswer
-  figure_answer start i = let r = refusal (start (column_checks i)) in record { refused = r; figure = unless r Clear (figure_of (column_ratio i)) }
+  unfoldable pub figure_answer : (List Check → List Check) → ℕ → Result (Option Float) Refusal
+  figure_answer start i = answered (refusal (start (column_checks i))) (figure_of (column_ratio i))

@@ -1,18 +1,17 @@
 -- Document 01, "Strength, resolution, projections": resolution, the largest ratio, generalized resolution.
 -- GR is that of source document 003, section 3, used here for every R from 1.
-use Rattle.std.specs.Prelude.{cond, List, [], ◌∷◌, map, ℕ, ◌+◌, ◌*◌, ◌-◌, leb, pos, length}
+use Rattle.std.specs.Prelude.{Result, List, [], ◌∷◌, map, ℕ, ◌+◌, ◌*◌, ◌-◌, leb, pos, length}
 use Rattle.std.specs.Int.Signed.{lt_z}
 use Rattle.exact.specs.Lists.{first}
-use Rattle.exact.specs.Fractions.{zero_fraction, smaller_fraction, is_better}
 use Rattle.exact.specs.declared.fractions.Fraction.{Fraction}
 use Rattle.rules.specs.Plan.{Plan, columns, level, entry, every_column}
-use Rattle.rules.specs.Refusals.{Check, refusal, unless, no_resolution}
+use Rattle.rules.specs.declared.Refusal.{Refusal}
+use Rattle.rules.specs.Refusals.{Check, refusal, answered, no_resolution}
 use Rattle.sets.specs.Sets.{choose}
 use Rattle.words.specs.Words.{word}
 use Rattle.set_words.specs.SetWords.{relative_of}
 unfoldable pub use Rattle.ratios.specs.Ratios.{greatest}
-use Rattle.resolution.specs.declared.ResolutionAnswer.{ResolutionAnswer}
-use Rattle.resolution.specs.declared.GeneralizedAnswer.{GeneralizedAnswer}
+use Rattle.resolution.specs.declared.GeneralizedResolution.{GeneralizedResolution}
 
 -- q, the smallest whole number for which q² · den is at least 1,000,000 · num; the largest ratio is at most 1 (`ratio-at-most-one`), so q is at most 1000
 unfoldable pub root_of : Fraction → ℕ
@@ -44,17 +43,14 @@ module _ (p : Plan) (rs : List ℕ) where
   abbrev pub resolution_checks : List Check
   resolution_checks = no_resolution (columns p) resolution_in ∷ []
 
-  unfoldable pub resolution_answer : (List Check → List Check) → ResolutionAnswer
-  resolution_answer start =
-      let r = refusal (start resolution_checks) in record { refused = r; resolution = unless r 0 resolution_in }
+  unfoldable pub resolution_answer : (List Check → List Check) → Result ℕ Refusal
+  resolution_answer start = answered (refusal (start resolution_checks)) resolution_in
 
   -- R, the largest ratio, and GR in thousandths
-  unfoldable pub generalized_answer : (List Check → List Check) → GeneralizedAnswer
+  unfoldable pub generalized_answer : (List Check → List Check) → Result GeneralizedResolution Refusal
   generalized_answer start =
-      let r = refusal (start resolution_checks) in
-      record {
-        refused = r;
-        resolution = unless r 0 resolution_in;
-        ratio = unless r (record { num = 0; den = 0 }) ratio_in;
-        thousandths = unless r 0 (thousandths_of resolution_in ratio_in);
-      }
+      answered (refusal (start resolution_checks)) (record {
+        resolution = resolution_in;
+        ratio = ratio_in;
+        thousandths = thousandths_of resolution_in ratio_in;
+      })

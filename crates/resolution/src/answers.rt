@@ -1,74 +1,43 @@
 // For our own crates: each answer, of a rating; that for the resolution alone, of the words.
 ghost use Rattle.std.specs.Prelude.{◌≡◌, ◌≤◌};
 ghost use Rattle.rules.specs.Plan.{most_columns};
-ghost use Rattle.resolution.specs.Given.{
-  Small,
-  resolution_from,
-  generalized_from,
-  chart_of_rating,
-  chart_from,
-  figure_from,
-};
+ghost use Rattle.resolution.specs.Charts.{figure_of};
+ghost use Rattle.resolution.specs.Given.{Small, resolution_from, generalized_from, chart_from};
 
 use crate::numbers::{quotient, ratio_figure, root};
 use crate::routines::{Rating, resolution};
-use crate::{Chart, ChartAnswer, Figure, FigureAnswer, GeneralizedAnswer, ResolutionAnswer};
-use exact::fractions::Fraction;
+use crate::{Chart, GeneralizedResolution};
 use exact::signed;
 use rules::Refusal;
 
-// R of a plan of m columns, whose words these are, behind the refusal that the call begins with; 11 where it has none.
-pub fn resolution_answer(refused: Refusal, words: &[i64; 24], m: usize) -> ResolutionAnswer
-    requires { refused.number ≡ 0 → m ≤ most_columns }
-    ensures { result ≡ resolution_from refused words.now m }
+// R of a plan of m columns, whose words these are; 11 where it has none.
+pub fn resolution_answer(words: &[i64; 24], m: usize) -> Result<usize, Refusal>
+    requires { m ≤ most_columns }
+    ensures { result ≡ resolution_from words.now m }
 {
-    if refused.number != 0 {
-        return ResolutionAnswer {
-            refused,
-            resolution: 0,
-        };
-    }
     let size = resolution(words, m);
     if m < size {
-        return ResolutionAnswer {
-            refused: Refusal::plain(11),
-            resolution: 0,
-        };
+        return Err(Refusal::plain(11));
     }
-    ResolutionAnswer {
-        refused: Refusal::accepted(),
-        resolution: size,
-    }
+    Ok(size)
 }
 
 // R, the largest ratio, and GR in thousandths.
-pub fn generalized_of(x: Rating) -> GeneralizedAnswer
+pub fn generalized_of(x: Rating) -> GeneralizedResolution
     requires { Small x }
     ensures { result ≡ generalized_from x }
 {
-    let refused = x.refused;
-    if refused.number != 0 {
-        return GeneralizedAnswer {
-            refused,
-            resolution: 0,
-            ratio: Fraction { num: 0, den: 0 },
-            thousandths: 0,
-        };
-    }
-    let ratio = x.largest;
-    let thousandths = 1000 * (x.resolution as u64 + 1) - root(ratio);
-    GeneralizedAnswer {
-        refused,
+    GeneralizedResolution {
         resolution: x.resolution,
-        ratio,
-        thousandths,
+        ratio: x.largest,
+        thousandths: 1000 * (x.resolution as u64 + 1) - root(x.largest),
     }
 }
 
 // A_R, A_(R+1) and the largest ratio, each one division.
-fn figures_of(x: Rating) -> Chart
+pub fn chart_of(x: Rating) -> Chart
     requires { Small x }
-    ensures { result ≡ chart_of_rating x }
+    ensures { result ≡ chart_from x }
 {
     let largest = x.largest;
     let word = quotient(x.word, x.pairs);
@@ -84,37 +53,10 @@ fn figures_of(x: Rating) -> Chart
     Chart { word, next, ratio }
 }
 
-pub fn chart_of(x: Rating) -> ChartAnswer
-    requires { Small x }
-    ensures { result ≡ chart_from x }
-{
-    let refused = x.refused;
-    if refused.number != 0 {
-        return ChartAnswer {
-            refused,
-            chart: Chart {
-                word: 0.0,
-                next: 0.0,
-                ratio: 0.0,
-            },
-        };
-    }
-    let chart = figures_of(x);
-    ChartAnswer { refused, chart }
-}
-
 // The column's ratio as a figure.
-pub fn figure_of(x: Rating) -> FigureAnswer
+pub fn figure_of(x: Rating) -> Option<f64>
     requires { Small x }
-    ensures { result ≡ figure_from x }
+    ensures { result ≡ figure_of x.held }
 {
-    let refused = x.refused;
-    if refused.number != 0 {
-        return FigureAnswer {
-            refused,
-            figure: Figure::Clear,
-        };
-    }
-    let figure = ratio_figure(x.held);
-    FigureAnswer { refused, figure }
+    ratio_figure(x.held)
 }

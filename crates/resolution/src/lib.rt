@@ -14,16 +14,9 @@ pub mod answers;
 pub mod numbers;
 pub mod routines;
 
-// Every answer: the refusal, and beside it the values, which are zero in a refusal.
+// R, the largest ratio, and GR in thousandths.
 #[derive(Clone, Copy)]
-pub struct ResolutionAnswer {
-    pub refused: Refusal,
-    pub resolution: usize,
-}
-
-#[derive(Clone, Copy)]
-pub struct GeneralizedAnswer {
-    pub refused: Refusal,
+pub struct GeneralizedResolution {
     pub resolution: usize,
     pub ratio: Fraction,
     pub thousandths: u64,
@@ -37,51 +30,34 @@ pub struct Chart {
     pub ratio: f64,
 }
 
-#[derive(Clone, Copy)]
-pub struct ChartAnswer {
-    pub refused: Refusal,
-    pub chart: Chart,
-}
-
-// A column's chart figure: its ratio, or clear where that is zero.
-#[derive(Clone, Copy)]
-pub enum Figure {
-    Ratio(f64),
-    Clear,
-}
-
-#[derive(Clone, Copy)]
-pub struct FigureAnswer {
-    pub refused: Refusal,
-    pub figure: Figure,
-}
-
 // R, the smallest length from 1 whose word is above zero.
-pub fn resolution(levels: &[u8], table: &[u8]) -> ResolutionAnswer
+pub fn resolution(levels: &[u8], table: &[u8]) -> Result<usize, Refusal>
     ensures { let p = plan levels.now table.now in result ≡ resolution_answer p (every_run p) (of_plan p) }
 {
-    let answer = words::words(levels, table);
-    let words = answer.words;
-    answers::resolution_answer(answer.refused, &words, levels.len())
+    let words = words::words(levels, table)?;
+    answers::resolution_answer(&words, levels.len())
 }
 
 // R, the largest ratio, and GR in thousandths. No answer but a column's asks for a column; column 0 is one of every accepted plan.
-pub fn generalized(levels: &[u8], table: &[u8]) -> GeneralizedAnswer
+pub fn generalized(levels: &[u8], table: &[u8]) -> Result<GeneralizedResolution, Refusal>
     ensures { let p = plan levels.now table.now in result ≡ generalized_answer p (every_run p) (of_plan p) }
 {
-    answers::generalized_of(routines::rate_plan(levels, table, 0))
+    let rating = routines::rate_plan(levels, table, 0)?;
+    Ok(answers::generalized_of(rating))
 }
 
 // The three chart figures.
-pub fn charted(levels: &[u8], table: &[u8]) -> ChartAnswer
+pub fn charted(levels: &[u8], table: &[u8]) -> Result<Chart, Refusal>
     ensures { let p = plan levels.now table.now in result ≡ chart_answer p (every_run p) (of_plan p) }
 {
-    answers::chart_of(routines::rate_plan(levels, table, 0))
+    let rating = routines::rate_plan(levels, table, 0)?;
+    Ok(answers::chart_of(rating))
 }
 
-// A column's chart figure.
-pub fn column_figure(levels: &[u8], table: &[u8], column: usize) -> FigureAnswer
+// A column's chart figure: its ratio, and none where that is zero, which is clear.
+pub fn column_figure(levels: &[u8], table: &[u8], column: usize) -> Result<Option<f64>, Refusal>
     ensures { let p = plan levels.now table.now in result ≡ figure_answer p (every_run p) (of_plan p) column }
 {
-    answers::figure_of(routines::rate_plan(levels, table, column))
+    let rating = routines::rate_plan(levels, table, column)?;
+    Ok(answers::figure_of(rating))
 }

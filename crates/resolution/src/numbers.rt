@@ -5,7 +5,6 @@ ghost use Rattle.std.specs.Float.Ieee.{of_int};
 ghost use Rattle.resolution.specs.Resolution.{root_of};
 ghost use Rattle.resolution.specs.Charts.{quotient, figure_of};
 
-use crate::Figure;
 use exact::fractions::Fraction;
 use exact::signed;
 
@@ -15,14 +14,12 @@ pub fn root(x: Fraction) -> u64
     ensures { result ≡ root_of x }
 {
     let wanted = 1_000_000 * x.num;
-    let mut q = 0;
-    while q < 1000 {
+    for q in 0..1000 {
         if wanted <= q * q * x.den {
             return q;
         }
-        q += 1;
     }
-    q
+    1000
 }
 
 // A whole number as an f64, without loss.
@@ -34,6 +31,7 @@ fn exact(n: i64) -> f64
 }
 
 // The f64 nearest to num / den: one division of two numbers that an f64 holds exactly.
+#[tactic(auto, unfolding(crate::specs::Charts::quotient))]
 pub fn quotient(num: i64, den: u64) -> f64
     requires { (nat_abs num ≤ 2 ^ 53) × (den ≤ 2 ^ 53) }
     ensures { result ≡ quotient num den }
@@ -41,13 +39,13 @@ pub fn quotient(num: i64, den: u64) -> f64
     exact(num) / exact(signed::of_u64(den))
 }
 
-// A ratio as a figure, clear where it is zero.
-pub fn ratio_figure(x: Fraction) -> Figure
+// A ratio as a figure, and none where it is zero, which is clear.
+pub fn ratio_figure(x: Fraction) -> Option<f64>
     requires { (x.num ≤ 2 ^ 53) × (x.den ≤ 2 ^ 53) }
     ensures { result ≡ figure_of x }
 {
     if x.num == 0 {
-        return Figure::Clear;
+        return None;
     }
-    Figure::Ratio(quotient(signed::of_u64(x.num), x.den))
+    Some(quotient(signed::of_u64(x.num), x.den))
 }

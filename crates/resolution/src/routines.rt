@@ -1,16 +1,16 @@
 // For our own crates: R and the ratios of some runs of a plan, and what the answers are made of. The runs that stand are such a list.
 ghost use Rattle.std.specs.Prelude.{◌≡◌, ◌≤◌, length};
 ghost use Rattle.rules.specs.Plan.{plan, columns, level, entry, every_run, every_column, most_columns};
-ghost use Rattle.rules.specs.Refusals.{refusal, plan_checks};
+ghost use Rattle.rules.specs.Refusals.{refusal, answered, of_plan};
 ghost use Rattle.sets.specs.Sets.{sets_of};
 ghost use Rattle.parts.specs.Parts.{NoneShorter};
 ghost use Rattle.set_words.specs.Given.{Tabled};
 ghost use Rattle.ratios.specs.Ratios.{ratios_of};
 ghost use Rattle.resolution.specs.Resolution.{resolution_checks};
-ghost use Rattle.resolution.specs.Given.{Measured, word_in, first_above, refusing, measures_beside, rating_beside};
+ghost use Rattle.resolution.specs.Charts.{column_checks};
+ghost use Rattle.resolution.specs.Given.{Measured, word_in, first_above, measures};
 
 use exact::fractions::Fraction;
-use exact::signed;
 use plan::routines::several_levels;
 use ratios::{Ratios, ratios_of};
 use rules::Refusal;
@@ -19,7 +19,6 @@ use rules::sizes::MOST_COLUMNS;
 // What every answer is made of: the columns m, the pairs n², R, the words W_R and W_(R+1), the largest ratio and a column's.
 #[derive(Clone, Copy)]
 pub struct Rating {
-    pub refused: Refusal,
     pub columns: usize,
     pub pairs: u64,
     pub resolution: usize,
@@ -34,14 +33,12 @@ pub fn resolution(words: &[i64; 24], m: usize) -> usize
     requires { m ≤ most_columns }
     ensures { result ≡ first_above words.now m }
 {
-    let mut j = 1;
-    while j <= m {
-        if signed::lt(0, words[j - 1]) {
-            return j;
+    for (k, word) in words[..m].iter().enumerate() {
+        if 0 < *word {
+            return k + 1;
         }
-        j += 1;
     }
-    j // m + 1: no word is above zero
+    m + 1 // no word is above zero
 }
 
 // The largest ratio of the sets of `size` columns, which have no shorter word, and of those that hold the column. A set with a column of one level has the ratio zero, which is never the greater: such sets are not walked.
@@ -57,9 +54,7 @@ pub fn largest_ratios(
     ensures { let p = plan levels.now table.now in result ≡ ratios_of p runs.now (sets_of (columns p) size) column }
 {
     let several = several_levels(levels);
-    let columns = several.columns;
-    let many = several.many;
-    ratios_of(levels, table, runs, &columns[..many], size, column)
+    ratios_of(levels, table, runs, several.as_slice(), size, column)
 }
 
 // The word of length j; no set has more than 24 columns, so that a greater length has the word zero.
@@ -70,88 +65,60 @@ fn word_at(words: &[i64; 24], j: usize) -> i64
     if j <= MOST_COLUMNS { words[j - 1] } else { 0 }
 }
 
-// A rating that refuses.
-fn refusing(refused: Refusal) -> Rating
-    ensures { result ≡ refusing refused }
-{
-    Rating {
-        refused,
-        columns: 0,
-        pairs: 0,
-        resolution: 0,
-        word: 0,
-        next: 0,
-        largest: Fraction { num: 0, den: 0 },
-        held: Fraction { num: 0, den: 0 },
-    }
-}
-
-// Refusal 11, and beside it the measures of the runs, whose words these are.
-fn rate(levels: &[u8], table: &[u8], runs: &[usize], words: &[i64; 24], column: usize) -> Rating
-    requires { Measured (plan levels.now table.now) runs.now words.now }
-    ensures { let p = plan levels.now table.now in let rs = runs.now in
-        result ≡ measures_beside p rs column (refusal (resolution_checks p rs)) }
-{
-    let m = levels.len();
-    let size = resolution(words, m);
-    if m < size {
-        return refusing(Refusal::plain(11));
-    }
-    let ratios = largest_ratios(levels, table, runs, size, column);
-    let largest = ratios.largest;
-    let held = ratios.held;
-    let n = runs.len() as u64;
-    let word = word_at(words, size);
-    let next = word_at(words, size + 1);
-    Rating {
-        refused: Refusal::accepted(),
-        columns: m,
-        pairs: n * n,
-        resolution: size,
-        word,
-        next,
-        largest,
-        held,
-    }
-}
-
-// The same behind the refusal that the call begins with, and refusal 8 of the column.
-pub fn rate_answer(
-    refused: Refusal,
+// The measures of the runs, whose words these are; 11 where they have no R.
+fn rate(
     levels: &[u8],
     table: &[u8],
     runs: &[usize],
     words: &[i64; 24],
     column: usize,
-) -> Rating
-    requires { refused.number ≡ 0 → Measured (plan levels.now table.now) runs.now words.now }
-    ensures { result ≡ rating_beside (plan levels.now table.now) runs.now refused column }
+) -> Result<Rating, Refusal>
+    requires { Measured (plan levels.now table.now) runs.now words.now }
+    ensures { let p = plan levels.now table.now in let rs = runs.now in
+        result ≡ answered (refusal (resolution_checks p rs)) (measures p rs column) }
 {
-    if refused.number != 0 {
-        return refusing(refused);
+    let m = levels.len();
+    let size = resolution(words, m);
+    if m < size {
+        return Err(Refusal::plain(11));
     }
+    let ratios = largest_ratios(levels, table, runs, size, column);
+    let n = runs.len() as u64;
+    Ok(Rating {
+        columns: m,
+        pairs: n * n,
+        resolution: size,
+        word: word_at(words, size),
+        next: word_at(words, size + 1),
+        largest: ratios.largest,
+        held: ratios.held,
+    })
+}
+
+// The same, and before it 8 of the column.
+pub fn rate_answer(
+    levels: &[u8],
+    table: &[u8],
+    runs: &[usize],
+    words: &[i64; 24],
+    column: usize,
+) -> Result<Rating, Refusal>
+    requires { Measured (plan levels.now table.now) runs.now words.now }
+    ensures { let p = plan levels.now table.now in let rs = runs.now in
+        result ≡ answered (refusal (column_checks p rs column)) (measures p rs column) }
+{
     if levels.len() <= column {
-        return refusing(Refusal::plain(8));
+        return Err(Refusal::plain(8));
     }
     rate(levels, table, runs, words, column)
 }
 
 // The rating of every run of a plan, behind its checks.
-pub(crate) fn rate_plan(levels: &[u8], table: &[u8], column: usize) -> Rating
-    ensures { let p = plan levels.now table.now in
-        result ≡ rating_beside p (every_run p) (refusal (plan_checks p)) column }
+pub(crate) fn rate_plan(levels: &[u8], table: &[u8], column: usize) -> Result<Rating, Refusal>
+    ensures { let p = plan levels.now table.now in let rs = every_run p in
+        result ≡ answered (refusal (of_plan p (column_checks p rs column))) (measures p rs column) }
 {
-    let checked = plan::routines::checked_runs(levels, table);
-    let runs = checked.runs;
-    let count = checked.count;
-    let answer = words::routines::words_answer(checked.refused, levels, table);
-    let words = answer.words;
-    rate_answer(
-        checked.refused,
-        levels,
-        table,
-        &runs[..count],
-        &words,
-        column,
-    )
+    let runs = plan::routines::checked_runs(levels, table)?;
+    let words = words::routines::words_of_plan(levels, table);
+    rate_answer(levels, table, runs.as_slice(), &words, column)
 }

@@ -2,7 +2,7 @@
 // run lost and the original numbers of the runs left.
 #![tactic(auto)]
 
-ghost use Rattle.std.specs.Prelude.{◌≡◌, ◌≤◌, length};
+ghost use Rattle.std.specs.Prelude.{◌≡◌, ◌≤◌, length, IfOk};
 ghost use Rattle.console.specs.Counts.{IsPrefixLen};
 ghost use Rattle.rules.specs.Plan.{most_runs};
 ghost use Rattle.writer.specs.Writer.{most_of_text};
@@ -13,7 +13,7 @@ use console::lines::{line_after, lines_end};
 use console::{say, say_number};
 use rules::Refusal;
 use rules::sizes::MOST_RUNS;
-use standing_text::TextAnswer;
+use standing_text::Text;
 use std::io::Write;
 use std::rt::Env;
 use writer::MOST_BYTES;
@@ -26,24 +26,22 @@ fn show_refusal<O: Write, E: Write>(output: &mut O, errors: &mut E, refused: Ref
 
 // The line of a run ends with byte 10, as every line of an accepted text, and so ends what is said.
 fn say_run<E: Write>(errors: &mut E, run: usize, lines: &[u8]) {
-    say(errors, b"lost");
-    say_number(errors, run as u64);
-    say(errors, b" ");
+    let _ = write!(errors, "lost {run} ");
     say(errors, line_after(lines, run));
 }
 
 fn say_lost<E: Write>(errors: &mut E, runs: &[usize], text: &[u8]) {
     let levels = lines_end(text, 1);
     let lines = &text[levels..];
-    for k in 0..runs.len() {
-        say_run(errors, runs[k], lines);
+    for run in runs {
+        say_run(errors, *run, lines);
     }
 }
 
 fn say_left<E: Write>(errors: &mut E, runs: &[usize]) {
     say(errors, b"runs");
-    for k in 0..runs.len() {
-        say_number(errors, runs[k] as u64);
+    for run in runs {
+        say_number(errors, *run);
     }
     say(errors, b"\n");
 }
@@ -57,10 +55,15 @@ fn lost_runs<A: Env>(env: &A, runs: &mut [usize]) -> usize
 }
 
 // The text without the lost runs, in rooms for the longest text and for all runs of a plan.
-fn rewritten(text: &[u8], lost: &[usize], room: &mut [u8], numbers: &mut [usize]) -> TextAnswer
+fn rewritten(
+    text: &[u8],
+    lost: &[usize],
+    room: &mut [u8],
+    numbers: &mut [usize],
+) -> Result<Text, Refusal>
     requires { (most_of_text ≤ length room.old) × (most_runs ≤ length numbers.old) }
     ensures answer { result ≡ rewrite_answer text.now lost.now (length room.old) (length numbers.old) }
-    ensures within { (result.bytes ≤ length room.new) × (result.runs ≤ length numbers.new) }
+    ensures within { IfOk result (λ text. (text.bytes ≤ length room.new) × (text.runs ≤ length numbers.new)) }
 {
     standing_text::rewrite(text, lost, room, numbers)
 }
@@ -77,19 +80,18 @@ fn main(rt: HostRuntime) {
         console::not_read(&mut errors, &error);
         return;
     }
-    let size = read.size;
+    let text = &text[..read.size];
+    let lost = &lost[..losses];
     let mut room = [0u8; MOST_BYTES];
     let mut numbers = [0usize; MOST_RUNS];
-    let answer = rewritten(&text[..size], &lost[..losses], &mut room, &mut numbers);
-    let refused = answer.refused;
-    if refused.number != 0 {
-        show_refusal(&mut output, &mut errors, refused, &text[..size]);
-        return;
-    }
-    let bytes = answer.bytes;
-    let runs = answer.runs;
-    if console::write(&mut output, &mut errors, &room[..bytes]) && losses != 0 {
-        say_lost(&mut errors, &lost[..losses], &text[..size]);
-        say_left(&mut errors, &numbers[..runs]);
+    match rewritten(text, lost, &mut room, &mut numbers) {
+        Ok(left) => {
+            let written = console::write(&mut output, &mut errors, &room[..left.bytes]);
+            if written && !lost.is_empty() {
+                say_lost(&mut errors, lost, text);
+                say_left(&mut errors, &numbers[..left.runs]);
+            }
+        }
+        Err(refused) => show_refusal(&mut output, &mut errors, refused, text),
     }
 }

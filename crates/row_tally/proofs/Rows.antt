@@ -1,8 +1,9 @@
 -- Rows in a room: a row that is put there stands at its place, and the others stay.
-use Rattle.exact.proofs.Ground.{List, ◌++◌, append_assoc, ◌≡◌, ◌∙◌, sym, ap, ℕ, ◌≤◌, ◌<◌, ◌-◌, ◌+◌, ◌*◌, dec_lt, arith, pos, ℤ, ℕ_discrete, length, get_or, take, drop, min, refl, take-length, replicate, length-replicate}
+use Rattle.exact.proofs.Ground.{List, ◌++◌, append_assoc, ◌≡◌, ◌∙◌, sym, ap, ℕ, ◌≤◌, ◌<◌, ◌-◌, ◌+◌, ◌*◌, dec_lt, arith, pos, ℤ, ℕ_discrete}
+use Rattle.exact.proofs.Ground.{length, get_or, take, drop, min, refl, take-length, replicate, length-replicate}
 use Rattle.exact.proofs.Ground.{set, length-set, length-drop, get_or-append, length-take-le, take_at, drop_at, get_or-take, get_or-drop, ext_get_or}
 use lib.ListN.{length-take}
-use lib.Seq.{paste, length-paste, drop-paste, length_paste_head, get_or-set_same, get_or-set_other}
+use lib.Seq.{paste, length-paste, drop-paste, length_paste_head, get_or-set_other}
 use Rattle.rules.specs.Plan.{Plan, columns, level, highest_level, most_columns}
 use Rattle.cells.specs.Cells.{window, cell_of, pair_row}
 use Rattle.cells.proofs.CellPair.{cell_row}
@@ -48,7 +49,8 @@ module _ (room row : List ℤ) (c : ℕ) (long : length row ≡ most_columns) (f
 
   pub row_stays : (d : ℕ) → ¬ (d ≡ c) → row_at after d ≡ row_at room d
   row_stays d n =
-      ext_get_or (pos 0) (row_at after d) (row_at room d) (length-row after ∙ ap (λ k. min most_columns (k - d * most_columns)) length-after ∙ sym (length-row room))
+      ext_get_or (pos 0) (row_at after d) (row_at room d)
+      (length-row after ∙ ap (λ k. min most_columns (k - d * most_columns)) length-after ∙ sym (length-row room))
       (λ k h. let l : k < most_columns = omega (arith, length-row after) in
       at after k l ∙ other (d * most_columns + k) (dec_lt d c) l ∙ sym (at room k l))
     where

@@ -1,7 +1,6 @@
 // For our own crates: the row sums of a run over some runs. Its pairs are counted by cell, in counters lent at zero and given back at zero.
 // What a pair of a cell adds is worked out once, and kept for the next run.
-ghost use Rattle.std.specs.Prelude.{◌≡◌, [], ◌∷◌, ◌+◌, ◌/◌, ◌%◌, ◌<◌, ◌≤◌, ◌^◌, length, get_or, replicate};
-ghost use Rattle.std.proofs.Math.Seq.{paste};
+ghost use Rattle.std.specs.Prelude.{◌≡◌, [], ◌∷◌, ◌+◌, ◌/◌, ◌%◌, ◌<◌, ◌≤◌, ◌^◌, length, get_or};
 ghost use Rattle.rules.specs.Plan.{plan, most_columns, most_runs};
 ghost use Rattle.plan.specs.Good.{Sound};
 ghost use Rattle.pairs.specs.Given.{Row, added};
@@ -31,18 +30,8 @@ fn tally_runs(
         Counted p 256 (row_list p runs.now f) total.old counts.old samples.old
         total.new counts.new samples.new }
 {
-    for k in 0..runs.len() {
-        tally(total, counts, samples, strides, levels, table, f, runs[k]);
-    }
-}
-
-// A row of sums is copied into a room, from place `at` on.
-fn put(room: &mut [i64], at: usize, sums: &[i64])
-    requires { Row (2 ^ 61) sums.now × (at + most_columns ≤ length room.old) × (at < 2 ^ 32) }
-    ensures { room.new ≡ paste room.old at sums.now most_columns }
-{
-    for j in 0..24 {
-        room[at + j] = sums[j];
+    for g in runs {
+        tally(total, counts, samples, strides, levels, table, f, *g);
     }
 }
 
@@ -56,10 +45,8 @@ fn keep(known: &mut [u8], kept: &mut [i64], levels: &[u8], table: &[u8], c: usiz
     if known[c] != 0 {
         return;
     }
-    let f = (x / 256) as usize;
-    let g = (x % 256) as usize;
-    let sums = pair(levels, table, f, g);
-    put(kept, c * 24, &sums[1..]);
+    let sums = pair(levels, table, usize::from(x / 256), usize::from(x % 256));
+    kept[c * 24..c * 24 + 24].copy_from_slice(&sums[1..]);
     known[c] = 1;
 }
 
@@ -107,17 +94,8 @@ fn settle(
         (total.new ≡ worth p total.old counts.now samples.now)
         × KeptOn p known.old known.new kept.new }
 {
-    for c in 0..counts.len() {
-        settle_cell(total, known, kept, levels, table, c, counts[c], samples[c]);
-    }
-}
-
-// Every counter is zero again.
-fn clear(counts: &mut [u16])
-    ensures { counts.new ≡ replicate (length counts.old) 0 }
-{
-    for c in 0..counts.len() {
-        counts[c] = 0;
+    for (c, times) in counts.iter().enumerate() {
+        settle_cell(total, known, kept, levels, table, c, *times, samples[c]);
     }
 }
 
@@ -149,7 +127,7 @@ pub fn row_in(
         &mut total, counts, samples, strides, levels, table, later, f,
     );
     settle(&mut total, counts, samples, known, kept, levels, table);
-    clear(counts);
+    counts.fill(0);
     total
 }
 

@@ -1,3 +1,4 @@
 pub mod Ranges
+pub mod Answered
 pub mod Order
 pub mod Figures

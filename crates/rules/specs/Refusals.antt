@@ -1,6 +1,7 @@
 -- Document 01, "Refusal numbers": the fourteen checks, their places and their order. Number 12 is not used: request #109 withdrew it. Number 15 is not given yet.
 use Rattle.std.specs.Prelude.{Bool, cond, not, ◌&&◌, ◌||◌, List, [], ◌∷◌, ◌++◌, ℕ, ◌/◌, ◌%◌, eqb, ltb, ℤ, pos, neg_ℤ, length, get_or}
 use Rattle.exact.specs.Lists.{all, keep, each, product, rise, outside, first}
+use Rattle.std.specs.Prelude.{Result, Ok, Err}
 use Rattle.rules.specs.declared.Refusal.{Refusal}
 use Rattle.rules.specs.Plan.{Plan, columns, runs, level, most_columns, most_runs, lowest_level, highest_level, highest_product, longest_text}
 
@@ -41,7 +42,16 @@ first_failing (c ∷ cs) = let later = first_failing cs in cond c.fails c.gives 
 abbrev pub refusal : List Check → Refusal
 refusal checks = first_failing (ordered checks)
 
--- what stands beside the refusal: the value, and in a refusal the blank (every number zero, a figure clear)
+-- what a call answers: its value, or the refusal
+abbrev pub answered : {A : Type 0} → Refusal → A → Result A Refusal
+answered r value = cond (refuses r) (Err r) (Ok value)
+
+-- the refusal in an answer
+abbrev pub refusal_in : {A : Type 0} → Result A Refusal → Refusal
+refusal_in (Ok value) = accepted
+refusal_in (Err r) = r
+
+-- what stands in a refusal, the blank, and else the value
 abbrev pub unless : {A : Type 0} → Refusal → A → A → A
 unless r blank value = cond (refuses r) blank value
 
@@ -50,8 +60,9 @@ abbrev pub or_else : Refusal → Refusal → Refusal
 or_else r s = unless r r s
 
 -- what a C program gets: a number, or the refusal's number negated
-abbrev pub number_or : Refusal → ℤ → ℤ
-number_or r value = unless r (neg_ℤ (pos r.number)) value
+abbrev pub number_or : Result ℤ Refusal → ℤ
+number_or (Ok value) = value
+number_or (Err r) = neg_ℤ (pos r.number)
 
 -- no refusal has a larger number
 abbrev pub largest_number : ℕ

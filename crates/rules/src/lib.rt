@@ -1,14 +1,14 @@
-// A refusal: its number and two place numbers (document 01, "Refusal numbers"). Number 0 is no refusal.
+// A refusal: its number and two place numbers (document 01, "Refusal numbers"). A call answers its value, or the refusal.
 #![tactic(auto)]
 
 ghost use Rattle.std.specs.Prelude.{◌≡◌, [], ◌∷◌, ◌≤◌};
-ghost use Rattle.rules.specs.Refusals.{accepted, plain, placed, refusal, too_few, or_else, number_or, largest_number};
+ghost use Rattle.rules.specs.Refusals.{plain, placed, refusal, answered, refusal_in, too_few, number_or, largest_number};
 
 use exact::signed;
 
 pub mod sizes;
 
-#[derive(Clone, Copy)]
+#[derive(Clone, Copy, Debug, PartialEq, Eq)]
 pub struct Refusal {
     pub number: u64,
     pub first: usize,
@@ -16,17 +16,6 @@ pub struct Refusal {
 }
 
 impl Refusal {
-    // No refusal.
-    pub fn accepted() -> Refusal
-        ensures { result ≡ accepted }
-    {
-        Refusal {
-            number: 0,
-            first: 0,
-            second: 0,
-        }
-    }
-
     // A refusal that names no place.
     pub fn plain(number: u64) -> Refusal
         ensures { result ≡ plain number }
@@ -50,34 +39,23 @@ impl Refusal {
     }
 
     // Refusal 10, where fewer runs stand than a call needs.
-    pub fn too_few(needed: usize, standing: usize) -> Refusal
-        ensures { result ≡ refusal (too_few needed standing ∷ []) }
+    pub fn too_few(needed: usize, standing: usize) -> Result<(), Refusal>
+        ensures { result ≡ answered (refusal (too_few needed standing ∷ [])) tt }
     {
         if standing < needed {
-            return Refusal::plain(10);
+            return Err(Refusal::plain(10));
         }
-        Refusal::accepted()
+        Ok(())
     }
+}
 
-    // The first refusal, and where there is none the second.
-    pub fn or_else(self, other: Refusal) -> Refusal
-        ensures { result ≡ or_else self other }
-    {
-        if self.number != 0 {
-            return self;
-        }
-        other
-    }
-
-    // What a C program gets: a number, or the refusal's number negated.
-    pub fn number_or(self, value: i64) -> i64
-        requires { self.number ≤ largest_number }
-        ensures { result ≡ number_or self value }
-    {
-        let number = self.number;
-        if number != 0 {
-            return signed::sub(0, signed::of_u64(number));
-        }
-        value
+// What a C program gets: a number, or the refusal's number negated.
+pub fn number_or(answer: Result<i64, Refusal>) -> i64
+    requires { (refusal_in answer).number ≤ largest_number }
+    ensures { result ≡ number_or answer }
+{
+    match answer {
+        Ok(value) => value,
+        Err(refused) => signed::sub(0, signed::of_u64(refused.number)),
     }
 }

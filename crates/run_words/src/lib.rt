@@ -3,7 +3,7 @@
 
 ghost use Rattle.std.specs.Prelude.{◌≡◌, true, [], ◌∷◌, ◌≤◌};
 ghost use Rattle.rules.specs.Plan.{plan, most_columns};
-ghost use Rattle.rules.specs.Refusals.{refusal, past_resolution};
+ghost use Rattle.rules.specs.Refusals.{refusal, answered, past_resolution};
 ghost use Rattle.plan.specs.Good.{Sound};
 ghost use Rattle.words.specs.Answers.{word_list};
 ghost use Rattle.resolution.specs.Given.{first_above};
@@ -19,48 +19,35 @@ pub fn words_of_runs(levels: &[u8], table: &[u8], runs: &[usize]) -> [i64; 24]
     ensures { result ≡ word_list (plan levels.now table.now) runs.now }
 {
     let mut total = [0i64; 24];
-    let mut k = runs.len();
-    while 0 < k {
-        let later = row(levels, table, &runs[k..], runs[k - 1]);
+    for k in (0..runs.len()).rev() {
+        let later = row(levels, table, &runs[k + 1..], runs[k]);
         add_to(&mut total, &later.sums);
-        k -= 1;
     }
     let own = diagonal(levels);
     both_orders(&mut total, &own, runs.len());
     total
 }
 
-// The words, where they are wanted; zeros otherwise, and in a refusal.
-pub fn words_wanted(
-    wanted: bool,
-    refused: Refusal,
-    levels: &[u8],
-    table: &[u8],
-    runs: &[usize],
-) -> [i64; 24]
-    requires { refused.number ≡ 0 → Sound (plan levels.now table.now) runs.now }
+// The words, where they are wanted, and else zeros.
+pub fn words_wanted(wanted: bool, levels: &[u8], table: &[u8], runs: &[usize]) -> [i64; 24]
+    requires { Sound (plan levels.now table.now) runs.now }
     ensures { let p = plan levels.now table.now in
-        refused.number ≡ 0 → wanted ≡ true → result ≡ word_list p runs.now }
+        wanted ≡ true → result ≡ word_list p runs.now }
 {
-    if !wanted {
-        return [0; 24];
+    if wanted {
+        words_of_runs(levels, table, runs)
+    } else {
+        [0; 24]
     }
-    if refused.number != 0 {
-        return [0; 24];
-    }
-    words_of_runs(levels, table, runs)
 }
 
 // Refusal 16: a relative table of m columns, whose words these are, is asked for f above R.
-pub fn check_relative(relative: bool, words: &[i64; 24], m: usize, f: usize) -> Refusal
+pub fn check_relative(relative: bool, words: &[i64; 24], m: usize, f: usize) -> Result<(), Refusal>
     requires { m ≤ most_columns }
-    ensures { result ≡ refusal (past_resolution relative (first_above words.now m) f ∷ []) }
+    ensures { result ≡ answered (refusal (past_resolution relative (first_above words.now m) f ∷ [])) tt }
 {
-    if !relative {
-        return Refusal::accepted();
+    if relative && resolution(words, m) < f {
+        return Err(Refusal::plain(16));
     }
-    if resolution(words, m) < f {
-        return Refusal::plain(16);
-    }
-    Refusal::accepted()
+    Ok(())
 }

@@ -1,16 +1,17 @@
 -- Counters of any number: one number more, and the squares of those in use.
 use Rattle.exact.proofs.Ground.{cond, List, [], ◌∷◌, map, ◌++◌, Memᴰ, mem-of_map, ◌≡◌, ◌∙◌, sym, ap, refl, subst, fun_ext, ℕ, ◌≤◌, ◌<◌, ◌-◌}
-use Rattle.exact.proofs.Ground.{◌+◌, ◌*◌, suc, zero, zero-add, le_trans, add-one, arith, eqb, pos, ℤ, ◌*ℤ◌, ◌+ℤ◌, +ℤ_idr, length, get_or, take, drop}
-use Rattle.exact.proofs.Ground.{replicate, set, length-drop, take-suc, drop_at, ne_eqb}
+use Rattle.exact.proofs.Ground.{◌+◌, ◌*◌, suc, zero, zero-add, le_trans, add-one, arith, eqb, pos, ◌*ℤ◌, ◌+ℤ◌, +ℤ_idr, length, get_or, take, drop}
+use Rattle.exact.proofs.Ground.{replicate, set, take-suc, drop_at, ne_eqb}
+use lib.ListN.{length-take}
 use Rattle.exact.specs.Lists.{from}
 use Rattle.exact.proofs.Numbers.{map-from-at, from-add, mem-from}
-use Rattle.exact.proofs.Lists.{drop-back, map-cong-in, count_none}
+use Rattle.exact.proofs.Lists.{map-cong-in, count_none}
 use Rattle.exact.proofs.Rooms.{map-++, length-numbered}
 use Rattle.exact.proofs.Sums.{sum-++}
 use Rattle.rules.specs.Plan.{most_runs}
 use Rattle.counts.proofs.Turns.{raise, take-from}
 use Rattle.parts.specs.Parts.{times, longer}
-use Rattle.parts.proofs.Squared.{times-bound}
+use Rattle.parts.proofs.Squared.{times-bound, times-snoc}
 use Rattle.set_ratios.specs.Given.{tallied, squares_in, cleared}
 
 module _ (w : ℕ) where
@@ -32,13 +33,17 @@ module _ (w : ℕ) where
       ∙ raise (times xs) x w h
       ∙ ap (λ g. map g (from 0 w)) (fun_ext (λ k. ap (λ c. cond (eqb x k) c (times xs k)) (add-one (times xs k))))
 
-  -- a turn of the loop, from place k down: the number before it is x
-  module _ (xs : List ℕ) (k : ℕ) (h : 0 < k) (l : k ≤ length xs) (x : ℕ) (d : get_or xs (k - 1) 0 ≡ x) (s : x < w) (C : List ℕ) (e : C ≡ tallied w (drop k xs)) where
-    pub tallied-turn : set C x (get_or C x 0 + 1) ≡ tallied w (drop (k - 1) xs)
-    tallied-turn = rw e (tallied-next (drop k xs) x s ∙ ap (tallied w) (sym (drop-back xs k 0 h l ∙ ap (λ y. y ∷ drop k xs) d)))
+  tallied-snoc : (xs : List ℕ) (x : ℕ) → tallied w (xs ++ x ∷ []) ≡ tallied w (x ∷ xs)
+  unfolding tallied
+  tallied-snoc xs x = ap (λ g. map g (from 0 w)) (fun_ext (times-snoc xs x))
+
+  -- a turn of the loop: the number at place k is x
+  module _ (xs : List ℕ) (k : ℕ) (h : k < length xs) (x : ℕ) (d : get_or xs k 0 ≡ x) (s : x < w) (C : List ℕ) (e : C ≡ tallied w (take k xs)) where
+    pub tallied-turn : set C x (get_or C x 0 + 1) ≡ tallied w (take (k + 1) xs)
+    tallied-turn = rw (e, add-one k, take-suc xs k 0, d) (tallied-next (take k xs) x s ∙ sym (tallied-snoc (take k xs) x))
 
     pub tally-small : get_or C x 0 ≤ length xs
-    tally-small = rw (e, tallied-at (drop k xs) x s) (omega (arith, times-bound (drop k xs) x, length-drop k xs))
+    tally-small = rw (e, tallied-at (take k xs) x s) (omega (arith, times-bound (take k xs) x, length-take k xs))
 
 -- a number with one digit more
 pub longer-at : (s : ℕ) (xs ds : List ℕ) (k : ℕ) → k < length xs → get_or (longer s xs ds) k 0 ≡ get_or xs k 0 * s + get_or ds k 0

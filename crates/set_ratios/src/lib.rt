@@ -23,11 +23,9 @@ fn count(numbers: &[u16], level: u8, digits: &[u8], counters: &mut [u16])
     requires counters_value { counters.old ≡ tallied (length counters.old) [] }
     ensures { counters.new ≡ tallied (length counters.old) (longer level numbers.now digits.now) }
 {
-    let levels = level as usize;
-    let mut k = numbers.len();
-    while 0 < k {
-        k -= 1;
-        let number = numbers[k] as usize * levels + digits[k] as usize;
+    let levels = usize::from(level);
+    for (k, number) in numbers.iter().enumerate() {
+        let number = usize::from(*number) * levels + usize::from(digits[k]);
         counters[number] += 1;
     }
 }
@@ -40,10 +38,11 @@ fn take_squares(counters: &mut [u16], many: usize) -> u64
     ensures counters { counters.new ≡ cleared many counters.old }
 {
     let mut total: u64 = 0;
-    for k in 0..many {
-        let times = counters[k] as u64;
+    let front = &mut counters[..many];
+    for counter in front.iter_mut() {
+        let times = u64::from(*counter);
         total += times * times;
-        counters[k] = 0;
+        *counter = 0;
     }
     total
 }
@@ -89,5 +88,5 @@ pub fn ratio(
     let combinations = product_of(levels, columns, MOST_COMBINATIONS);
     let squares = squares(numbers, last, digits, combinations, counters);
     let word = combinations as u64 * squares - n * n;
-    reduced(word, n * n * (lowest as u64 - 1))
+    reduced(word, n * n * (u64::from(lowest) - 1))
 }

@@ -1,16 +1,15 @@
 -- What the checks of a projection tell, and what a call on a plan hands over: a projection size, a projection, runs for a table.
-use Rattle.exact.proofs.Ground.{List, [], ◌∷◌, ◌≡◌, ℕ, arith, T, take}
+use Rattle.exact.proofs.Ground.{List, [], ◌∷◌, ◌≡◌, ℕ, arith, T}
 use Rattle.exact.proofs.Numbers.{length_from}
 use Rattle.rules.specs.declared.Refusal.{Refusal}
 use Rattle.rules.specs.Plan.{Plan, columns, runs, every_run}
-use Rattle.rules.specs.Refusals.{refusal, bad_size, is_set}
+use Rattle.std.specs.Prelude.{Ok}
+use Rattle.rules.specs.Refusals.{refusal, answered, plan_checks, bad_size, is_set}
 use Rattle.sets.proofs.Questions.{size-passed}
 use Rattle.sets.proofs.Rising.{set-part}
-use Rattle.plan.specs.declared.routines.Checked.{Checked}
 use Rattle.plan.specs.Good.{Good, Sound}
-use Rattle.plan.specs.Given.{checked_of}
 use Rattle.plan.proofs.Sound.{good-sound}
-use Rattle.plan.proofs.CheckedRuns.{checked-sound, checked-some}
+use Rattle.plan.proofs.Answers.{begun-good}
 use Rattle.set_words.specs.Given.{Projection, SizeOf, Tabled}
 use Rattle.set_words.proofs.Products.{part-projection}
 
@@ -27,5 +26,6 @@ good-tabled p G = record {
   some = omega (arith, G.runs-low, length_from 0 (runs p));
 }
 
-pub checked-tabled : (p : Plan) {k : Checked} → k ≡ checked_of p → k.refused.number ≡ 0 → Tabled p (take k.count k.runs)
-checked-tabled p e z = record { sound = checked-sound p e z; some = checked-some p e z }
+-- every run of a plan past its checks
+pub begun-tabled : {A : Type 0} (p : Plan) (x : A) {y : A} → Ok y ≡ answered (refusal (plan_checks p)) x → Tabled p (every_run p)
+begun-tabled p x w = good-tabled p (begun-good p x w)

@@ -1,14 +1,18 @@
--- The product of a pair's scores: how large it is, and the turn of a loop from the last column down.
-use Rattle.exact.proofs.Ground.{List, [], ◌∷◌, map, Memᴰ, mem-head, mem-tail, ◌≡◌, sym, ap, refl, subst, ℕ, ◌≤◌, ◌<◌, ◌-◌, ◌*◌, suc}
-use Rattle.exact.proofs.Ground.{zero, le_trans, mul-le-mul, le_refl, mul-le-mul_right, arith, pos, ℤ, nat_abs, ◌*ℤ◌, length, get_or, drop, drop-length}
+-- The product of a pair's scores: how large it is, and the turn of a loop over the columns.
+use Rattle.exact.proofs.Ground.{List, [], ◌∷◌, map, Memᴰ, mem-head, mem-tail, ◌≡◌, sym, refl, subst, ℕ, ◌≤◌, ◌<◌, ◌*◌}
+use Rattle.exact.proofs.Ground.{le_trans, mul-le-mul, le_refl, mul-le-mul_right, arith, ℤ, nat_abs, ◌*ℤ◌, length, get_or, take}
+use Rattle.exact.proofs.Ground.{take-suc, ◌+◌, add-one}
 use native.Mathlib.Nat.{one-mul}
 use Rattle.exact.specs.Lists.{from, prod, product}
-use Rattle.exact.proofs.Lists.{drop-back, mem-drop}
+use Rattle.exact.proofs.Members.{take-mem}
+use Rattle.exact.proofs.Ring.{*-one}
+use Rattle.exact.proofs.Sums.{prod-++}
 use Rattle.exact.proofs.Order.{nat_abs-*}
 use Rattle.exact.proofs.Numbers.{map-places, mem-from}
 use Rattle.rules.specs.Plan.{Plan, columns, level, highest_product}
 use Rattle.sets.proofs.Parts.{Part, none, skip, keep, part-mem}
 use Rattle.words.proofs.Bound.{score-bound}
+use Rattle.counts.proofs.Turns.{product-take}
 use Rattle.set_words.specs.Given.{Projection, Starts, entry_from, score_from, score_product}
 
 module _ {A : Type 0} where
@@ -22,12 +26,6 @@ module _ {A : Type 0} where
     -- a factor above 0 makes no product smaller
     factor : (x : A) (n m : ℕ) → 0 < s x → n ≤ m → n ≤ s x * m
     factor x n m h l = le_trans l (subst (λ k. k ≤ s x * m) (one-mul m) (mul-le-mul_right m h))
-
-    product-drop : (k : ℕ) (xs : List A) → ((x : A) → Memᴰ x xs → 0 < s x) → product (map s (drop k xs)) ≤ product (map s xs)
-    product-drop zero xs h = le_refl (product (map s xs))
-    product-drop (suc k) [] h = le_refl 1
-    product-drop (suc k) (x ∷ xs) h =
-        factor x (product (map s (drop k xs))) (product (map s xs)) (h x (mem-head refl)) (product-drop k xs (λ y m. h y (mem-tail m)))
 
     product-part : {I K : List A} → Part I K → ((x : A) → Memᴰ x K → 0 < s x) → product (map s I) ≤ product (map s K)
     product-part none h = le_refl 1
@@ -51,21 +49,18 @@ module _ (p : Plan) (low : (i : ℕ) → i < columns p → 1 ≤ level p i) wher
         small = subst (λ l. product l ≤ highest_product) (sym (map-places p.levels 0)) small;
       })
 
--- before the first turn
-pub product-none : (p : Plan) (I : List ℕ) (a b : ℕ) → pos 1 ≡ score_product p (drop (length I) I) a b
-product-none p I a b = rw drop-length
-
 module _ (p : Plan) (I : List ℕ) (P : Projection p I) (a b : ℕ) (A : Starts p I a) (B : Starts p I b) where
   score-small : (i : ℕ) → Memᴰ i I → nat_abs (score_from p a b i) < level p i
   score-small i m = score-bound (level p i) (entry_from p a i) (entry_from p b i) (A.below i m) (B.below i m)
 
-  -- the product over the columns from place k on
-  pub product_small : (k : ℕ) → nat_abs (score_product p (drop k I) a b) ≤ highest_product
+  -- the product over the first k columns
+  pub product_small : (k : ℕ) → nat_abs (score_product p (take k I) a b) ≤ highest_product
   product_small k =
-      le_trans (prod-bound (level p) (drop k I) (score_from p a b) (λ i m. score-small i (mem-drop k I i m)))
-      (le_trans (product-drop (level p) k I (λ i m. let s = score-small i m in omega arith)) P.small)
+      le_trans (prod-bound (level p) (take k I) (score_from p a b) (λ i m. score-small i (take-mem k I i m)))
+      (le_trans (product-take (level p) k I (λ i m. let s = score-small i m in omega arith)) P.small)
 
-  -- the turn of the loop, from place k down
-  pub product-turn : (k : ℕ) → 0 < k → k ≤ length I →
-      score_from p a b (get_or I (k - 1) 0) *ℤ score_product p (drop k I) a b ≡ score_product p (drop (k - 1) I) a b
-  product-turn k h l = sym (ap (λ J. score_product p J a b) (drop-back I k 0 h l))
+  -- the turn of the loop
+  pub product-turn : (k : ℕ) → k < length I →
+      score_product p (take k I) a b *ℤ score_from p a b (get_or I k 0) ≡ score_product p (take (k + 1) I) a b
+  product-turn k h =
+      rw (add-one, take-suc I k 0, prod-++ (take k I) (get_or I k 0 ∷ []) (score_from p a b), *-one (score_from p a b (get_or I k 0))) refl

@@ -1,36 +1,41 @@
 -- The smallest level of a set, from the last column down; and how large a value's denominator is.
 use Rattle.exact.proofs.Ground.{true, false, Bool, cond, List, [], ◌∷◌, map, Memᴰ, mem-head, mem-tail, mem-not_nil}
-use Rattle.exact.proofs.Ground.{mem-of_map, mem-of_singleton, ◌≡◌, ◌∙◌, sym, ap, refl, subst, ℕ, ◌≤◌, ◌<◌, ◌-◌, ◌*◌, min, dec_le, mul-pos}
-use Rattle.exact.proofs.Ground.{arith, nat_abs, length, get_or, drop, length-map, drop-cons, drop-length}
+use Rattle.exact.proofs.Ground.{mem-of_map, mem-of_singleton, ◌≡◌, sym, refl, subst, ℕ, ◌≤◌, ◌<◌, ◌-◌, ◌*◌, min, dec_le, mul-pos}
+use Rattle.exact.proofs.Ground.{◌++◌, ◌+◌, add-one, arith, nat_abs, length, get_or, take, take-suc, length-map, length-take-le}
+use mathlib.Core.List.{map-append}
 use native.Mathlib.Nat.{min-eq_left, min-eq_right, min-le_left, min-le_right, mul-one}
 use Rattle.exact.specs.Lists.{smallest, holds}
 use Rattle.exact.specs.Fractions.{zero_fraction, reduced, ShortDenominator}
 use Rattle.exact.specs.declared.fractions.Fraction.{Fraction}
-use Rattle.exact.proofs.Lists.{drop-back}
 use Rattle.exact.proofs.Numbers.{mul-below}
 use Rattle.exact.proofs.Tests.{is_true, is_false}
-use Rattle.exact.proofs.Members.{get_or-mem, mem-holds, holds-mem}
+use Rattle.exact.proofs.Members.{mem-holds, holds-mem}
 use Rattle.exact.proofs.Reduced.{reduced-num-≤, reduced-den-≤, reduced-den-pos}
 use Rattle.rules.specs.Plan.{Plan, level, entry, lowest_level, highest_level, most_runs}
 use Rattle.words.specs.Words.{word_of}
-use Rattle.set_words.specs.Given.{Projection, SomeColumns, Tabled, over_pairs}
+use Rattle.set_words.specs.Given.{Projection, Tabled, over_pairs}
 use Rattle.set_words.specs.SetWords.{value_of, relative_of, value_in}
-
--- ---- the columns
-
-pub column_inside : (m : ℕ) (I : List ℕ) (k : ℕ) → SomeColumns m I → k < length I → get_or I k 0 < m
-column_inside m I k some l = some.inside (get_or I k 0) (get_or-mem I k 0 l)
 
 -- ---- the smallest
 
-module _ (f : ℕ → ℕ) (I : List ℕ) where
-  pub smallest-last : 1 ≤ length I → f (get_or I (length I - 1) 0) ≡ smallest (map f (drop (length I - 1) I))
-  smallest-last h =
-      sym (ap (λ l. smallest (map f l)) (drop-back I (length I) 0 h (omega arith) ∙ ap (λ l. get_or I (length I - 1) 0 ∷ l) (drop-length I)))
+-- one number more
+smallest-more : (x : ℕ) (xs : List ℕ) (y : ℕ) → smallest ((x ∷ xs) ++ y ∷ []) ≡ min (smallest (x ∷ xs)) y
+smallest-more x [] y = refl
+smallest-more x (z ∷ zs) y = rw (smallest-more z zs y) (omega arith)
 
-  pub smallest-turn : (k : ℕ) → 0 < k → k < length I →
-      min (f (get_or I (k - 1) 0)) (smallest (map f (drop k I))) ≡ smallest (map f (drop (k - 1) I))
-  smallest-turn k h l = rw (drop-back I k 0 h (omega arith), drop-cons I k 0 l)
+smallest-snoc : (xs : List ℕ) (y : ℕ) → 1 ≤ length xs → smallest (xs ++ y ∷ []) ≡ min (smallest xs) y
+smallest-snoc [] y h = absurd (omega arith)
+smallest-snoc (x ∷ xs) y h = smallest-more x xs y
+
+module _ (f : ℕ → ℕ) (I : List ℕ) where
+  pub smallest-first : 1 ≤ length I → f (get_or I 0 0) ≡ smallest (map f (take 1 I))
+  smallest-first h = rw (take-suc I 0 0) refl
+
+  pub smallest-turn : (k : ℕ) → 1 ≤ k → k < length I →
+      min (smallest (map f (take k I))) (f (get_or I k 0)) ≡ smallest (map f (take (k + 1) I))
+  smallest-turn k low h =
+      rw (add-one, take-suc I k 0, map-append f)
+      (sym (smallest-snoc (map f (take k I)) (f (get_or I k 0)) (simp length-map (omega (arith, length-take-le k I (omega arith))))))
 
 pub smallest-mem : (xs : List ℕ) → 1 ≤ length xs → Memᴰ (smallest xs) xs
 smallest-mem [] h = absurd (omega arith)

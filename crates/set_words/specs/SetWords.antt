@@ -1,13 +1,12 @@
 -- Document 01, "Strength, resolution, projections": W(I) of one set of columns, and its values (source document 000).
-use Rattle.std.specs.Prelude.{Bool, cond, List, [], ◌∷◌, map, ℕ, ◌*◌, ◌-◌, pos, nat_abs, length}
+use Rattle.std.specs.Prelude.{Bool, cond, List, [], ◌∷◌, map, ℕ, ◌*◌, ◌-◌, nat_abs, length, ℤ, Result}
 use Rattle.exact.specs.Lists.{smallest, holds}
 use Rattle.exact.specs.Fractions.{zero_fraction, reduced}
 use Rattle.exact.specs.declared.fractions.Fraction.{Fraction}
 use Rattle.rules.specs.Plan.{Plan, columns, level, entry}
 use Rattle.rules.specs.declared.Refusal.{Refusal}
-use Rattle.rules.specs.Refusals.{Check, refusal, unless, bad_size, bad_set}
+use Rattle.rules.specs.Refusals.{Check, refusal, answered, bad_size, bad_set}
 use Rattle.words.specs.Words.{word_of}
-use Rattle.set_words.specs.declared.SetWordAnswer.{SetWordAnswer}
 
 -- ---- values of a set of columns
 
@@ -33,9 +32,6 @@ set_word_checks p f I = bad_size (columns p) f ∷ bad_set (columns p) f I ∷ [
 
 -- of the runs rs of a plan
 module _ (p : Plan) (rs : List ℕ) where
-  -- the refusal, and beside it W(I)
-  abbrev pub set_word_beside : Refusal → List ℕ → SetWordAnswer
-  set_word_beside r I = record { refused = r; word = unless r (pos 0) (word_of (level p) (entry p) rs I) }
-
-  unfoldable pub set_word_answer : (List Check → List Check) → ℕ → List ℕ → SetWordAnswer
-  set_word_answer start f I = set_word_beside (refusal (start (set_word_checks p f I))) I
+  -- W(I), or the refusal
+  unfoldable pub set_word_answer : (List Check → List Check) → ℕ → List ℕ → Result ℤ Refusal
+  set_word_answer start f I = answered (refusal (start (set_word_checks p f I))) (word_of (level p) (entry p) rs I)

@@ -10,13 +10,6 @@ use rules::Refusal;
 
 pub mod routines;
 
-// The refusal, and beside it W(I), which is zero in a refusal.
-#[derive(Clone, Copy)]
-pub struct SetWordAnswer {
-    pub refused: Refusal,
-    pub word: i64,
-}
-
 // How W(I) is worked out: from the pairs of runs, from the counts of level combinations, or as is faster.
 #[derive(Clone, Copy)]
 pub enum Engine {
@@ -32,26 +25,16 @@ pub fn set_word_by(
     f: usize,
     columns: &[usize],
     engine: Engine,
-) -> SetWordAnswer
+) -> Result<i64, Refusal>
     ensures { let p = plan levels.now table.now in
         result ≡ set_word_answer p (every_run p) (of_plan p) f columns.now }
 {
-    let checked = plan::routines::checked_runs(levels, table);
-    let runs = checked.runs;
-    let count = checked.count;
-    routines::set_word_answer(
-        checked.refused,
-        levels,
-        table,
-        &runs[..count],
-        f,
-        columns,
-        engine,
-    )
+    let runs = plan::routines::checked_runs(levels, table)?;
+    routines::set_word_answer(levels, table, runs.as_slice(), f, columns, engine)
 }
 
 // W(I) of a set of f columns.
-pub fn set_word(levels: &[u8], table: &[u8], f: usize, columns: &[usize]) -> SetWordAnswer
+pub fn set_word(levels: &[u8], table: &[u8], f: usize, columns: &[usize]) -> Result<i64, Refusal>
     ensures { let p = plan levels.now table.now in
         result ≡ set_word_answer p (every_run p) (of_plan p) f columns.now }
 {

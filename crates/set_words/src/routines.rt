@@ -1,16 +1,16 @@
 // For our own crates: W(I) and its value over some runs of a plan, each named by its number. The runs that stand are such a list.
-ghost use Rattle.std.specs.Prelude.{◌≡◌, [], map, ◌+◌, ◌*◌, ◌≤◌, ◌<◌, length, get_or, drop, pos, nat_abs, ◌≤ℤ◌};
+ghost use Rattle.std.specs.Prelude.{◌≡◌, [], map, ◌+◌, ◌*◌, ◌≤◌, ◌<◌, length, get_or, take, pos, nat_abs, ◌≤ℤ◌};
 ghost use Rattle.exact.specs.Lists.{sum, smallest};
 ghost use Rattle.exact.specs.Fractions.{reduced};
 ghost use Rattle.rules.specs.Plan.{plan, level, entry, most_runs, highest_level};
-ghost use Rattle.rules.specs.Refusals.{refusal, or_else};
+ghost use Rattle.rules.specs.Refusals.{refusal, answered};
 ghost use Rattle.plan.specs.Good.{Sound};
 ghost use Rattle.words.specs.Words.{word_of};
 ghost use Rattle.parts.specs.Parts.{counted};
 ghost use Rattle.set_words.specs.Given.{Projection, Starts, Tabled, SomeColumns, score_product, pair_of, over_pairs};
-ghost use Rattle.set_words.specs.SetWords.{value_in, set_word_checks, set_word_beside};
+ghost use Rattle.set_words.specs.SetWords.{value_in, set_word_checks};
 
-use crate::{Engine, SetWordAnswer};
+use crate::Engine;
 use exact::fractions::{Fraction, reduced};
 use exact::signed;
 use rules::Refusal;
@@ -28,32 +28,33 @@ fn pair_product(levels: &[u8], table: &[u8], a: usize, b: usize, columns: &[usiz
     ensures { result ≡ score_product (plan levels.now table.now) columns.now a b }
 {
     let mut product: i64 = 1;
-    let mut k = columns.len();
-    while 0 < k {
-        k -= 1;
-        let i = columns[k];
-        let score = pairs::routines::score(levels[i], table[a + i], table[b + i]);
-        product = signed::mul(score, product);
+    for i in columns {
+        let score = pairs::routines::score(levels[*i], table[a + *i], table[b + *i]);
+        product = signed::mul(product, score);
     }
     product
 }
 
-// The products of the run at place `at` with each later run, added up.
-fn later_products(levels: &[u8], table: &[u8], runs: &[usize], at: usize, columns: &[usize]) -> i64
+// The products of the run at place `at` with each earlier run, added up.
+fn earlier_products(
+    levels: &[u8],
+    table: &[u8],
+    runs: &[usize],
+    at: usize,
+    columns: &[usize],
+) -> i64
     requires { Sound (plan levels.now table.now) runs.now
         × (Projection (plan levels.now table.now) columns.now × (at < length runs.now)) }
     ensures { let p = plan levels.now table.now in
-        result ≡ sum (drop (at + 1) runs.now) (pair_of p columns.now (get_or runs.now at 0)) }
+        result ≡ sum (take at runs.now) (pair_of p columns.now (get_or runs.now at 0)) }
 {
     let m = levels.len();
     let a = runs[at] * m;
-    let next = at + 1;
+    let earlier = &runs[..at];
     let mut total: i64 = 0;
-    let mut k = runs.len();
-    while next < k {
-        k -= 1;
-        let b = runs[k] * m;
-        total = signed::add(pair_product(levels, table, a, b, columns), total);
+    for run in earlier {
+        let b = *run * m;
+        total = signed::add(total, pair_product(levels, table, a, b, columns));
     }
     total
 }
@@ -66,13 +67,11 @@ pub fn word_by_pairs(levels: &[u8], table: &[u8], runs: &[usize], columns: &[usi
 {
     let m = levels.len();
     let mut word: i64 = 0;
-    let mut k = runs.len();
-    while 0 < k {
-        k -= 1;
-        let later = later_products(levels, table, runs, k, columns);
-        let a = runs[k] * m;
+    for (k, run) in runs.iter().enumerate() {
+        let earlier = earlier_products(levels, table, runs, k, columns);
+        let a = *run * m;
         let own = pair_product(levels, table, a, a, columns);
-        word = signed::add(signed::add(word, signed::mul(2, later)), own);
+        word = signed::add(signed::add(word, signed::mul(2, earlier)), own);
     }
     word
 }
@@ -94,10 +93,7 @@ pub fn set_word(levels: &[u8], table: &[u8], runs: &[usize], columns: &[usize]) 
     ensures { let p = plan levels.now table.now in
         result ≡ word_of (level p) (entry p) runs.now columns.now }
 {
-    if MOST_COUNTED < columns.len() {
-        return word_by_pairs(levels, table, runs, columns);
-    }
-    if runs.len() < FEW_RUNS {
+    if MOST_COUNTED < columns.len() || runs.len() < FEW_RUNS {
         return word_by_pairs(levels, table, runs, columns);
     }
     word_by_counts(levels, table, runs, columns)
@@ -117,54 +113,36 @@ fn word_by(levels: &[u8], table: &[u8], runs: &[usize], columns: &[usize], engin
     }
 }
 
-// The answer for a set of f columns and some runs of a plan, behind the refusal that the call begins with: 6 and 8, of the set.
+// The answer for a set of f columns and some runs of a plan. Refusals 6 and 8, of the set.
 pub fn set_word_answer(
-    refused: Refusal,
     levels: &[u8],
     table: &[u8],
     runs: &[usize],
     f: usize,
     columns: &[usize],
     engine: Engine,
-) -> SetWordAnswer
-    requires { refused.number ≡ 0 → Sound (plan levels.now table.now) runs.now }
+) -> Result<i64, Refusal>
+    requires { Sound (plan levels.now table.now) runs.now }
     ensures { let p = plan levels.now table.now in
         let I = columns.now in
-        result ≡ set_word_beside p runs.now (or_else refused (refusal (set_word_checks p f I))) I }
+        result ≡ answered (refusal (set_word_checks p f I)) (word_of (level p) (entry p) runs.now I) }
 {
-    let refused = refused.or_else(sets::routines::check_set(levels.len(), f, columns));
-    if refused.number != 0 {
-        return SetWordAnswer { refused, word: 0 };
-    }
-    SetWordAnswer {
-        refused,
-        word: word_by(levels, table, runs, columns, engine),
-    }
+    sets::routines::check_set(levels.len(), f, columns)?;
+    Ok(word_by(levels, table, runs, columns, engine))
 }
 
 // The smallest level of the columns.
-#[tactic(auto, using(crate::proofs::Values::column_inside))]
 pub fn smallest_level(levels: &[u8], columns: &[usize]) -> u8
     requires { SomeColumns (length levels.now) columns.now }
     ensures { result ≡ smallest (map (λ i. get_or levels.now i 0) columns.now) }
 {
-    let mut k = columns.len() - 1;
-    let last = columns[k];
-    let mut lowest = levels[last];
-    while 0 < k {
-        k -= 1;
-        let i = columns[k];
-        if levels[i] < lowest {
-            lowest = levels[i];
-        }
+    let first = columns[0];
+    let others = &columns[1..];
+    let mut lowest = levels[first];
+    for i in others {
+        lowest = lowest.min(levels[*i]);
     }
     lowest
-}
-
-fn wide(level: u8) -> u64
-    ensures { result ≡ level }
-{
-    level as u64
 }
 
 // A word over n² · divisor. 256 runs and a divisor of 15 give a denominator of at most 983,040.
@@ -213,7 +191,7 @@ pub fn value(
     if !relative {
         return word_over(levels, table, runs, columns, word, 1);
     }
-    let lowest = wide(smallest_level(levels, columns));
+    let lowest = u64::from(smallest_level(levels, columns));
     if lowest == 1 {
         return Fraction { num: 0, den: 1 };
     }

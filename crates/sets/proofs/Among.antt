@@ -1,5 +1,5 @@
 -- The sets of t of some columns, place after place: the set at a place has the columns at the places of a set of numbers.
-use Rattle.exact.proofs.Ground.{List, [], map, Memᴰ, ◌≡◌, ◌∙◌, sym, ap, ℕ, ◌≤◌, ◌<◌, arith, length, get_or, set}
+use Rattle.exact.proofs.Ground.{List, [], map, Memᴰ, ◌≡◌, ◌∙◌, sym, ap, ℕ, ◌≤◌, ◌<◌, arith, length, get_or}
 use Rattle.exact.specs.Lists.{from}
 use Rattle.exact.proofs.Numbers.{map-places}
 use Rattle.exact.proofs.Members.{get_or-mem}

@@ -1,6 +1,9 @@
 -- Document 01, "Strength, resolution, projections": a table of place questions with their answers, and one statement over it.
 use Rattle.exact.proofs.Ground.{List, [], ◌∷◌, map, ◌++◌, ◌≡◌, refl, ℕ}
+use Rattle.std.specs.Prelude.{Result, Ok, Err}
+use Rattle.exact.specs.Lists.{filled_to}
 use Rattle.rules.specs.declared.Refusal.{Refusal}
+use Rattle.rules.specs.Refusals.{accepted}
 use Rattle.sets.specs.Sets.{place_of, place_answer, set_at, set_answer}
 
 -- the place of columns, and the columns at a place, of f of m columns
@@ -12,11 +15,16 @@ data Question : Type 0 where
 abbrev numbers : Refusal → List ℕ
 numbers r = r.number ∷ r.first ∷ r.second ∷ []
 
+-- as numbers in a row: no refusal and the value, or the refusal and what stands in place of a value
+abbrev by_result : {A : Type 0} → Result A Refusal → (A → List ℕ) → List ℕ → List ℕ
+by_result (Ok x) row blank = numbers accepted ++ row x
+by_result (Err r) row blank = numbers r ++ blank
+
 -- the answer, as numbers in a row: the refusal, then the place or the four columns
 ask : Question → List ℕ
 unfolding place_of place_answer set_at set_answer
-ask (place m f I) = let a = place_answer m f I in numbers a.refused ++ a.place ∷ []
-ask (set m f k) = let a = set_answer m f k in numbers a.refused ++ a.columns
+ask (place m f I) = by_result (place_answer m f I) (λ k. k ∷ []) (0 ∷ [])
+ask (set m f k) = by_result (set_answer m f k) (λ I. filled_to 4 0 I) (filled_to 4 0 [])
 
 record Figure : Type 0 where
   question : Question

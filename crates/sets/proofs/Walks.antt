@@ -1,10 +1,9 @@
 -- The two walks over the columns as loops: what holds before each column, and that a turn keeps it.
-use Rattle.exact.proofs.Ground.{List, [], ◌∷◌, mem-head, ◌≡◌, ◌∙◌, sym, ap, refl, ℕ, ◌≤◌, ◌<◌, ◌-◌, ◌+◌, suc, zero, add-one, arith, T, length}
-use Rattle.exact.proofs.Ground.{get_or, drop, replicate, set, length-drop, drop-cons, drop-length}
+use Rattle.exact.proofs.Ground.{List, [], ◌∷◌, ◌++◌, mem-head, ◌≡◌, ◌∙◌, sym, ap, refl, ℕ, ◌≤◌, ◌<◌, ◌-◌, ◌+◌, suc, zero, add-one, arith, T, length}
+use Rattle.exact.proofs.Ground.{get_or, drop, take, take-suc, take_all, length-drop, drop-cons, drop-length}
 use native.Mathlib.Nat.{sub-zero}
-use Rattle.exact.specs.Lists.{from, filled_to}
+use Rattle.exact.specs.Lists.{from}
 use Rattle.exact.proofs.Numbers.{length_from, mem-from}
-use Rattle.exact.proofs.Rooms.{copied, copy-next, copy-all, into-blank}
 use Rattle.rules.specs.Refusals.{is_set}
 use Rattle.sets.specs.Sets.{binom, set_at, place_of}
 use Rattle.sets.proofs.Parts.{Part, skip, keep, part-mem, part_length}
@@ -80,9 +79,9 @@ pub record Choosing (m j k a t r : ℕ) (row : List ℕ) : Type 0 where
   pub taken : t ≤ j
   pub below : r < binom (m - a) (j - t)
   pub left : drop t (set_at m j k) ≡ set_from a (m - a) (j - t) r
-  pub written : row ≡ copied (set_at m j k) (replicate 24 0) t
+  pub written : row ≡ take t (set_at m j k)
 
-pub choosing-start : (m j k : ℕ) → k < binom m j → Choosing m j k 0 0 k (replicate 24 0)
+pub choosing-start : (m j k : ℕ) → k < binom m j → Choosing m j k 0 0 k []
 choosing-start m j k h = record {
   taken = omega arith;
   below = rw (sub-zero m, sub-zero j) h;
@@ -90,10 +89,8 @@ choosing-start m j k h = record {
   written = refl;
 }
 
-pub choosing-end : (m j k a t r : ℕ) (row : List ℕ) → k < binom m j → Choosing m j k a t r row → t ≡ j → row ≡ filled_to 24 0 (set_at m j k)
-choosing-end m j k a t r row h C e =
-    let l : t ≡ length (set_at m j k) = e ∙ sym (set-at-set m j k h).1 in
-    C.written ∙ copy-all (set_at m j k) (replicate 24 0) t l ∙ into-blank (set_at m j k) 24 0
+pub choosing-end : (m j k a t r : ℕ) (row : List ℕ) → k < binom m j → Choosing m j k a t r row → t ≡ j → row ≡ set_at m j k
+choosing-end m j k a t r row h C e = C.written ∙ take_all t (set_at m j k) (omega (arith, e, (set-at-set m j k h).1))
 
 -- where sets are left, columns are left
 some_left : (n j r : ℕ) → 0 < j → r < binom n j → 0 < n
@@ -121,8 +118,8 @@ module _ (m j k a t r : ℕ) (row : List ℕ) (C : Choosing m j k a t r row) (l 
   members : drop t (set_at m j k) ≡ set_from a (suc (m - (a + 1))) (suc (j - (t + 1))) r
   members = rw (less m a place-left, less j t l) at C.left
 
-  pub choosing-keep : t < 24 → r < binom (m - a - 1) (j - t - 1) → Choosing m j k (a + 1) (t + 1) r (set row t a)
-  choosing-keep f h =
+  pub choosing-keep : r < binom (m - a - 1) (j - t - 1) → Choosing m j k (a + 1) (t + 1) r (row ++ a ∷ [])
+  choosing-keep h =
       let n : m - a - 1 ≡ m - (a + 1) = omega arith in
       let i : j - t - 1 ≡ j - (t + 1) = omega arith in
       let b : r < binom (m - (a + 1)) (j - (t + 1)) = rw (n, i) at h in
@@ -131,7 +128,7 @@ module _ (m j k a t r : ℕ) (row : List ℕ) (C : Choosing m j k a t r row) (l 
         taken = omega arith;
         below = b;
         left = d ∙ ap (λ c. set_from c (m - (a + 1)) (j - (t + 1)) r) (sym (add-one a));
-        written = ap (λ x. set x t a) C.written ∙ rw (← g) (copy-next (set_at m j k) (replicate 24 0) t 0 s f);
+        written = rw (C.written, ← g, add-one t) (sym (take-suc (set_at m j k) t 0 s));
       }
 
   pub choosing-skip : binom (m - a - 1) (j - t - 1) ≤ r → Choosing m j k (a + 1) t (r - binom (m - a - 1) (j - t - 1)) row

@@ -1,9 +1,9 @@
 -- Document 01, "Strength, resolution, projections": sets of columns, numbered in dictionary order; the place question both ways.
 use Rattle.std.specs.Prelude.{cond, List, [], ◌∷◌, ◌++◌, map, ℕ, zero, suc, ◌+◌, length, get_or}
-use Rattle.exact.specs.Lists.{from, same, filled_to}
-use Rattle.rules.specs.Refusals.{Check, refusal, unless, bad_columns, bad_size, bad_set, bad_place}
-use Rattle.sets.specs.declared.Placed.{Placed}
-use Rattle.sets.specs.declared.Chosen.{Chosen}
+use Rattle.exact.specs.Lists.{from, same}
+use Rattle.std.specs.Prelude.{Result}
+use Rattle.rules.specs.declared.Refusal.{Refusal}
+use Rattle.rules.specs.Refusals.{Check, refusal, answered, bad_columns, bad_size, bad_set, bad_place}
 
 module _ {A : Type 0} where
   -- the sets of j members of the list, in dictionary order; a set is the list of its members
@@ -49,11 +49,11 @@ size_checks m f = bad_columns m ∷ bad_size m f ∷ []
 abbrev pub place_checks : ℕ → ℕ → List ℕ → List Check
 place_checks m f I = size_checks m f ++ bad_set m f I ∷ []
 
-unfoldable pub place_answer : ℕ → ℕ → List ℕ → Placed
-place_answer m f I = let r = refusal (place_checks m f I) in record { refused = r; place = unless r 0 (place_of m I) }
+unfoldable pub place_answer : ℕ → ℕ → List ℕ → Result ℕ Refusal
+place_answer m f I = answered (refusal (place_checks m f I)) (place_of m I)
 
 abbrev pub set_checks : ℕ → ℕ → ℕ → List Check
 set_checks m f k = size_checks m f ++ bad_place (length (sets_of m f)) k ∷ []
 
-unfoldable pub set_answer : ℕ → ℕ → ℕ → Chosen
-set_answer m f k = let r = refusal (set_checks m f k) in record { refused = r; columns = filled_to 4 0 (unless r [] (set_at m f k)) }
+unfoldable pub set_answer : ℕ → ℕ → ℕ → Result (List ℕ) Refusal
+set_answer m f k = answered (refusal (set_checks m f k)) (set_at m f k)

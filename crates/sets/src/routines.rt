@@ -1,11 +1,12 @@
 // For our own crates: the checks of a projection, and the place of a set among the sets of its size, whatever the size.
 ghost use Rattle.std.specs.Prelude.{◌≡◌, [], ◌∷◌, ◌≤◌, ◌<◌, T};
-ghost use Rattle.exact.specs.Lists.{holds, filled_to};
-ghost use Rattle.rules.specs.Refusals.{refusal, bad_size, bad_set, is_set};
+ghost use Rattle.exact.specs.Lists.{holds};
+ghost use Rattle.rules.specs.Refusals.{refusal, answered, bad_size, bad_set, is_set};
 ghost use Rattle.sets.specs.Sets.{binom, place_of, set_at};
 ghost use Rattle.sets.specs.Given.{Binomials};
 
 use crate::binomials::BINOMIALS;
+use exact::listed::Numbers;
 use rules::Refusal;
 
 // The number of sets of b of a columns.
@@ -38,17 +39,11 @@ pub fn is_set(m: usize, columns: &[usize]) -> bool
     ensures { result ≡ is_set m columns.now }
 {
     let mut low = 0;
-    let mut i = 0;
-    while i < columns.len() {
-        let column = columns[i];
-        if column < low {
+    for column in columns {
+        if *column < low || m <= *column {
             return false;
         }
-        if m <= column {
-            return false;
-        }
-        low = column + 1;
-        i += 1;
+        low = *column + 1;
     }
     true
 }
@@ -57,42 +52,28 @@ pub fn is_set(m: usize, columns: &[usize]) -> bool
 pub fn holds(columns: &[usize], column: usize) -> bool
     ensures { result ≡ holds column columns.now }
 {
-    for k in 0..columns.len() {
-        if column == columns[k] {
-            return true;
-        }
-    }
-    false
+    columns.contains(&column)
 }
 
 // Refusal 6, of a projection on f of m columns.
-pub fn check_size(m: usize, f: usize) -> Refusal
-    ensures { result ≡ refusal (bad_size m f ∷ []) }
+pub fn check_size(m: usize, f: usize) -> Result<(), Refusal>
+    ensures { result ≡ answered (refusal (bad_size m f ∷ [])) tt }
 {
-    if f < 1 {
-        return Refusal::plain(6);
+    if f < 1 || 4 < f || m < f {
+        return Err(Refusal::plain(6));
     }
-    if 4 < f {
-        return Refusal::plain(6);
-    }
-    if m < f {
-        return Refusal::plain(6);
-    }
-    Refusal::accepted()
+    Ok(())
 }
 
 // Refusals 6 and 8, of a projection on these f of m columns.
-pub fn check_set(m: usize, f: usize, columns: &[usize]) -> Refusal
-    ensures { result ≡ refusal (bad_size m f ∷ bad_set m f columns.now ∷ []) }
+pub fn check_set(m: usize, f: usize, columns: &[usize]) -> Result<(), Refusal>
+    ensures { result ≡ answered (refusal (bad_size m f ∷ bad_set m f columns.now ∷ [])) tt }
 {
-    let size = check_size(m, f);
-    if columns.len() != f {
-        return size.or_else(Refusal::plain(8));
+    check_size(m, f)?;
+    if columns.len() != f || !is_set(m, columns) {
+        return Err(Refusal::plain(8));
     }
-    if !is_set(m, columns) {
-        return size.or_else(Refusal::plain(8));
-    }
-    size
+    Ok(())
 }
 
 // The place of a set among the sets of its size of m columns. A column that is left out passes the sets that have it.
@@ -115,21 +96,19 @@ pub fn place(m: usize, columns: &[usize]) -> usize
     place
 }
 
-// The set at place k among the sets of j of m columns, then zeros. The sets that have the column come first.
-pub fn set_at(m: usize, j: usize, k: usize) -> [usize; 24]
-    requires { (m ≤ 24) × (j ≤ m) × (k < binom m j) }
-    ensures { result ≡ filled_to 24 0 (set_at m j k) }
+// The set at place k among the sets of j of m columns. The sets that have the column come first.
+pub fn set_at<const N: usize>(m: usize, j: usize, k: usize) -> Numbers<N>
+    requires { (m ≤ 24) × (j ≤ m) × (j ≤ N) × (N ≤ 24) × (k < binom m j) }
+    ensures { result ≡ set_at m j k }
 {
     let binomials = all_binomials();
-    let mut columns = [0; 24];
+    let mut columns = Numbers::new();
     let mut left = k;
     let mut column = 0;
-    let mut taken = 0;
-    while taken < j {
-        let having = looked_up(&binomials, m - column - 1, j - taken - 1);
+    while columns.len() < j {
+        let having = looked_up(&binomials, m - column - 1, j - columns.len() - 1);
         if left < having {
-            columns[taken] = column;
-            taken += 1;
+            columns.push(column);
         } else {
             left -= having;
         }

@@ -1,28 +1,27 @@
--- The refusal at each return of the two calls, and what stands beside it.
-use Rattle.exact.proofs.Ground.{true, false, Bool, cond, List, [], ◌∷◌, ◌≡◌, ◌∙◌, sym, ap, refl, ap₂, ℕ, ◌≤◌, ◌<◌, arith, ltb, length, drop}
+-- The refusal at each return of the two calls, and what is answered.
+use Rattle.exact.proofs.Ground.{true, false, Bool, cond, List, [], ◌∷◌, ◌≡◌, ◌∙◌, sym, ap, refl, ℕ, ◌≤◌, ◌<◌, arith, ltb, length, drop}
 use Rattle.exact.proofs.Ground.{length-append, le-ltb, lt-ltb}
+use Rattle.std.specs.Prelude.{Result, Ok, Err, IsErrAnd, IfOk}
+use Rattle.std.proofs.lemmas.Result.{err_from_is_err_and}
 use Rattle.exact.specs.Lists.{into}
 use Rattle.rules.specs.declared.Refusal.{Refusal}
 use Rattle.rules.specs.Plan.{most_columns, most_entries}
-use Rattle.rules.specs.Refusals.{Check, refusal, refuses, accepted, plain, unless, or_else, bad_room}
-use Rattle.rules.proofs.Ranges.{unless-refused, unless-accepted, or-refused, or-accepted, or_assoc}
+use Rattle.rules.specs.Refusals.{Check, refusal, answered, refusal_in, accepted, plain, or_else, bad_room}
+use Rattle.rules.proofs.Ranges.{unless-refused, unless-accepted, or-refused, or_assoc}
+use Rattle.rules.proofs.Answered.{answered-err, err-refused, err-is, err-again, ok-accepted, ok-is, answered-ok}
 use Rattle.held.specs.declared.Held.{Held}
-use Rattle.held.specs.declared.HeldAnswer.{HeldAnswer}
-use Rattle.held.specs.Held.{IsHeld, marks_in, plan_in, standing_in}
-use Rattle.held.specs.Given.{standing_of}
-use Rattle.held.proofs.Lent.{none-refuses, some-asks, count-is}
+use Rattle.held.specs.declared.Answered.{Answered}
+use Rattle.held.specs.Held.{IsHeld, plan_in, standing_in}
+use Rattle.held.proofs.Lent.{columns-in, some-asks}
+use Rattle.held.proofs.Sizes.{sized}
 use Rattle.text.specs.Reader.{read_refusal, filled}
-use Rattle.writer.specs.declared.WriteAnswer.{WriteAnswer}
-use Rattle.writer.specs.Writer.{write_answer}
-use Rattle.standing_text.specs.declared.TextAnswer.{TextAnswer}
-use Rattle.standing_text.specs.declared.HeldText.{HeldText}
+use Rattle.writer.specs.Writer.{write_answer, bad_text_room, Runs}
+use Rattle.standing_text.specs.declared.Text.{Text}
 use Rattle.standing_text.specs.StandingText.{
-  answered,
-  refused_by,
+  sizes,
   text_in,
   text_refusal,
-  held_text,
-  numbers_after,
+  text_answer,
   left_of,
   read_left,
   rewritten,
@@ -30,166 +29,100 @@ use Rattle.standing_text.specs.StandingText.{
   rewrite_refusal,
   rewrite_answer,
 }
-use Rattle.standing_text.proofs.ReadLeft.{read-left-refused, read-left-accepted}
+use Rattle.standing_text.proofs.ReadLeft.{read-left-refused, read-left-accepted, read-left-refuses}
 
--- ---- what stands beside a refusal
+-- what is put in lies in the rooms
+pub answers-within : (R : Refusal) (text numbers room slots : List ℕ) (r : Result Text Refusal) {after past : List ℕ} → r ≡ answered R (sizes text numbers) →
+    after ≡ filled (refusal_in r) text room → past ≡ filled (refusal_in r) numbers slots → IfOk r (λ t. (t.bytes ≤ length after) × (t.runs ≤ length past))
+answers-within R text numbers room slots (Ok t) e f g =
+    rw (ok-is R (sizes text numbers) e, f, g) (fits text room, fits numbers slots)
+  where
+    fits : (xs d : List ℕ) → length xs ≤ length (into xs d)
+    fits xs d = rw (length-append xs (drop (length xs) d)) (omega arith)
+answers-within R text numbers room slots (Err r) e f g = tt
 
--- the answer and the two rooms
-abbrev pub Answers : Refusal → List ℕ → List ℕ → TextAnswer → List ℕ → List ℕ → List ℕ → List ℕ → Type 0
-Answers R text numbers r room after slots past =
-    (r ≡ answered R text numbers) × ((after ≡ filled r.refused text room) × (past ≡ filled r.refused numbers slots))
-
-module _ (R : Refusal) (text numbers : List ℕ) (r : TextAnswer) (room slots : List ℕ) where
-  pub refused-answers : {x : Refusal} → R ≡ x → ¬ (x.number ≡ 0) → r ≡ refused_by x → Answers R text numbers r room room slots slots
-  refused-answers {x} e n q =
-      let s : r.refused ≡ x = ap (λ y. y.refused) q in (
-        q ∙ rw (e, unless-refused x 0 (length text) n, unless-refused x 0 (length numbers) n),
-        (rw s (sym (unless-refused x room (into text room) n)), rw s (sym (unless-refused x slots (into numbers slots) n))),
-      )
-
-  -- what is put in lies in the rooms
-  answers-within : {after past : List ℕ} → Answers R text numbers r room after slots past → (r.bytes ≤ length after) × (r.runs ≤ length past)
-  answers-within A = rw (A.1.0, A.1.1, A.0) (go (refuses R))
-    where
-      fits : (xs d : List ℕ) → length xs ≤ length (into xs d)
-      fits xs d = rw (length-append xs (drop (length xs) d)) (omega arith)
-
-      go : (c : Bool) →
-          (cond c 0 (length text) ≤ length (cond c room (into text room))) × (cond c 0 (length numbers) ≤ length (cond c slots (into numbers slots)))
-      go true = (omega arith, omega arith)
-      go false = (fits text room, fits numbers slots)
+-- at the exit of a `?` a lent room is as it was
+pub stays : {A : Type 0} (xs room : List ℕ) (e : Refusal) (result : Result A Refusal) → IsErrAnd result (λ y. y ≡ e) → ¬ (e.number ≡ 0) →
+    room ≡ filled (refusal_in result) xs room
+stays xs room e result h n = let (y, is, same) = err_from_is_err_and result h in rw (is, same) (sym (unless-refused e room (into xs room) n))
 
 -- ---- the text of a held plan
 
+-- the runs that stand are sound, and there are columns where there are runs
+pub standing-runs : {h : Held} → IsHeld h → 0 < h.runs → Runs (plan_in h) (standing_in h)
+standing-runs H some = record { sound = (sized H).sound; some-columns = rw (columns-in H) ((sized H).columns-low some) }
+
+-- the rooms hold a bytes and b numbers
+abbrev pub rooms_of : Held → ℕ → ℕ → List Check
+rooms_of h a b = bad_room (length (text_in h)) a ∷ bad_room (length (standing_in h)) b ∷ []
+
 module _ {h : Held} (H : IsHeld h) (a b : ℕ) where
-  abbrev rooms_of : List Check
-  rooms_of = bad_room (length (text_in h)) a ∷ bad_room (length (standing_in h)) b ∷ []
-
-  pub none-stand : h.runs ≡ 0 → text_refusal h a b ≡ plain 10
+  pub rooms-enough : ¬ (h.runs ≡ 0) → length (text_in h) ≤ a → length (standing_in h) ≤ b → text_refusal h a b ≡ accepted
   unfolding text_refusal
-  none-stand e = none-refuses H rooms_of e
+  rooms-enough n k l = some-asks H (rooms_of h a b) n ∙ rw (le-ltb a (length (text_in h)) k, le-ltb b (length (standing_in h)) l)
 
-  module _ (n : ¬ (h.runs ≡ 0)) where
-    own : text_refusal h a b ≡ refusal rooms_of
-    unfolding text_refusal
-    own = some-asks H rooms_of n
+-- where some runs stand, the rooms decide
+module _ (h : Held) (a b : ℕ) (own : text_refusal h a b ≡ refusal (rooms_of h a b)) where
+  -- the room for the numbers is too small
+  pub small-numbers : b < length (standing_in h) → Err (plain 7) ≡ text_answer h a b
+  unfolding text_answer
+  small-numbers l = rw (own, lt-ltb b (length (standing_in h)) l) (go (ltb a (length (text_in h))))
+    where
+      go : (c : Bool) → Err (plain 7) ≡ answered (cond c (plain 7) (plain 7)) (sizes (text_in h) (standing_in h))
+      go true = refl
+      go false = refl
 
-    -- the room for the numbers is too small
-    pub small-numbers : b < length (standing_in h) → text_refusal h a b ≡ plain 7
-    small-numbers l = own ∙ rw (lt-ltb b (length (standing_in h)) l) (go (ltb a (length (text_in h))))
-      where
-        go : (c : Bool) → cond c (plain 7) (plain 7) ≡ plain 7
-        go true = refl
-        go false = refl
+  -- where they fit, the writer's answer is the call's
+  module _ (l : length (standing_in h) ≤ b) where
+    by-writer : text_refusal h a b ≡ refusal (bad_text_room (plan_in h) (standing_in h) a ∷ [])
+    by-writer = own ∙ rw (le-ltb b (length (standing_in h)) l)
 
-    -- where they fit, the writer's refusal is the call's
-    as_written : length (standing_in h) ≤ b → text_refusal h a b ≡ (write_answer (plan_in h) (standing_in h) (λ checks. checks) a).refused
+    pub text-unwritten : {e : Refusal} → Err e ≡ write_answer (plan_in h) (standing_in h) (λ checks. checks) a → Err e ≡ text_answer h a b
+    unfolding write_answer text_answer
+    text-unwritten w = rw by-writer (err-again _ (length (text_in h)) w (sizes (text_in h) (standing_in h)))
+
+    pub unwritten-refuses : {e : Refusal} → Err e ≡ write_answer (plan_in h) (standing_in h) (λ checks. checks) a → ¬ (e.number ≡ 0)
     unfolding write_answer
-    as_written l = own ∙ rw (le-ltb b (length (standing_in h)) l)
+    unwritten-refuses w = rw (err-is _ (length (text_in h)) w) (err-refused _ (length (text_in h)) w)
 
-    pub rooms-enough : length (text_in h) ≤ a → length (standing_in h) ≤ b → text_refusal h a b ≡ accepted
-    rooms-enough k l = own ∙ rw (le-ltb a (length (text_in h)) k, le-ltb b (length (standing_in h)) l)
-
--- what `write` ensures
-abbrev pub Writes : Held → HeldText → List ℕ → List ℕ → List ℕ → List ℕ → Type 0
-Writes h r room after slots past =
-    (r ≡ held_text h (length room) (length slots))
-    × ((after ≡ filled r.answer.refused (text_in h) room) × (past ≡ numbers_after h r.answer.refused slots))
-
-module _ (h : Held) (room slots : List ℕ) where
-  answers : {after past : List ℕ} {r : HeldText} → Writes h r room after slots past →
-      Answers (text_refusal h (length room) (length slots)) (text_in h) (standing_in h) r.answer room after slots past
-  unfolding held_text
-  answers W = (ap (λ x. x.answer) W.0, W.1)
-
--- what is answered where no run stands, where the room for the numbers is too small, and where the writer was asked
-module _ (h : Held) (a b : ℕ) where
-  abbrev lent : ℕ
-  lent = (standing_of (marks_in h)).count
-
-  abbrev asked : WriteAnswer
-  asked = write_answer (plan_in h) (standing_in h) (λ checks. checks) a
-
-  pub none-text : IsHeld h → h.runs ≡ 0 → held_text h a b ≡ record { held = h; answer = refused_by (plain 10) }
-  unfolding held_text
-  none-text H e = rw (none-stand H a b e) refl
-
-  pub small-text : IsHeld h → ¬ (h.runs ≡ 0) → b < lent → held_text h a b ≡ record { held = h; answer = refused_by (plain 7) }
-  unfolding held_text
-  small-text H n l = rw (small-numbers H a b n (rw (count-is H refl) at l)) refl
-
-  pub refused-text : IsHeld h → ¬ (h.runs ≡ 0) → lent ≤ b → ¬ (asked.refused.number ≡ 0) →
-      held_text h a b ≡ record { held = h; answer = refused_by asked.refused }
-  unfolding held_text
-  refused-text H n l m =
-      let r = asked.refused in
-      rw (as_written H a b n (rw (count-is H refl) at l), unless-refused r 0 (length (text_in h)) m, unless-refused r 0 (length (standing_in h)) m) refl
-
-  bytes-written : asked.bytes ≡ unless asked.refused 0 (length (text_in h))
-  unfolding write_answer
-  bytes-written = refl
-
-  pub whole-text : IsHeld h → ¬ (h.runs ≡ 0) → lent ≤ b → asked.refused.number ≡ 0 →
-      held_text h a b ≡ record { held = h; answer = record { refused = asked.refused; bytes = asked.bytes; runs = lent } }
-  unfolding held_text
-  whole-text H n l z =
-      rw (as_written H a b n (rw (count-is H refl) at l))
-      (ap₂ (λ bytes runs. record { held = h; answer = record { refused = asked.refused; bytes = bytes; runs = runs } }) (sym bytes-written)
-      (unless-accepted asked.refused 0 (length (standing_in h)) z ∙ sym (count-is H refl)))
-
-pub ruleset by_rooms = (none-text, small-text, refused-text, whole-text)
+    pub text-written : {n : ℕ} → Ok n ≡ write_answer (plan_in h) (standing_in h) (λ checks. checks) a →
+        Ok (record { bytes = n; runs = length (standing_in h) }) ≡ text_answer h a b
+    unfolding write_answer text_answer
+    text-written w =
+        let r = refusal (bad_text_room (plan_in h) (standing_in h) a ∷ []) in
+        rw (by-writer, ok-is r (length (text_in h)) w) (sym (answered-ok r (sizes (text_in h) (standing_in h)) (ok-accepted r (length (text_in h)) w)))
 
 -- ---- a text without the lost runs
 
--- what `rewrite` ensures
-abbrev pub Rewrites : List ℕ → List ℕ → TextAnswer → List ℕ → List ℕ → List ℕ → List ℕ → Type 0
-Rewrites text lost r room after slots past =
-    (r ≡ rewrite_answer text lost (length room) (length slots))
-    × ((after ≡ filled r.refused (rewritten text lost) room)
-    × ((past ≡ filled r.refused (runs_left text lost) slots) × ((r.bytes ≤ length after) × (r.runs ≤ length past))))
-
 -- an accepted text is refused by its strikes, or by the text that is left
 pub then-struck : (text lost : List ℕ) (a b : ℕ) → (read_refusal text most_columns most_entries).number ≡ 0 →
-    rewrite_refusal text lost a b ≡ or_else (left_of text lost).refused (text_refusal (left_of text lost).held a b)
+    rewrite_refusal text lost a b ≡ or_else (refusal_in (left_of text lost).answer) (text_refusal (left_of text lost).held a b)
 unfolding rewrite_refusal
 then-struck text lost a b z = unless-accepted (read_refusal text most_columns most_entries) _ _ z
 
-module _ (text lost room slots : List ℕ) where
-  abbrev R : Refusal
-  R = rewrite_refusal text lost (length room) (length slots)
-
-  abbrev of_reader : Refusal
-  of_reader = read_refusal text most_columns most_entries
-
-  abbrev left : HeldAnswer
-  left = left_of text lost
-
+-- the plan that is left, or what refuses it
+module _ (text lost : List ℕ) (a b : ℕ) {left : Answered Unit} (e : left ≡ read_left text lost) where
   abbrev of_text : Refusal
-  of_text = text_refusal left.held (length room) (length slots)
+  of_text = text_refusal (left_of text lost).held a b
 
-  rewrites : {r : TextAnswer} {after past : List ℕ} → Answers R (rewritten text lost) (runs_left text lost) r room after slots past →
-      Rewrites text lost r room after slots past
+  first : rewrite_refusal text lost a b ≡ or_else (refusal_in left.answer) of_text
+  unfolding rewrite_refusal
+  first =
+      sym (or_assoc (read_refusal text most_columns most_entries) (refusal_in (left_of text lost).answer) of_text)
+      ∙ ap (λ r. or_else r of_text) (sym (ap (λ (x : Answered Unit). refusal_in x.answer) e ∙ read-left-refused text lost))
+
+  pub not_left : {r : Refusal} → Err r ≡ left.answer → Err r ≡ rewrite_answer text lost a b
   unfolding rewrite_answer
-  rewrites {r} A = (A.0, (A.1.0, (A.1.1, answers-within R (rewritten text lost) (runs_left text lost) r room slots A)))
+  not_left {r} w =
+      let n = read-left-refuses text lost (w ∙ ap (λ (x : Answered Unit). x.answer) e) in
+      let q : rewrite_refusal text lost a b ≡ r = first ∙ ap (λ x. or_else (refusal_in x) of_text) (sym w) ∙ or-refused r of_text n in
+      rw q (sym (answered-err r (sizes (rewritten text lost) (runs_left text lost)) n))
 
-  refused-rewrites : {x : Refusal} {r : TextAnswer} → R ≡ x → ¬ (x.number ≡ 0) → r ≡ refused_by x → Rewrites text lost r room room slots slots
-  refused-rewrites {x} {r} e n q = rewrites (refused-answers R (rewritten text lost) (runs_left text lost) r room slots e n q)
+  module _ (w : Ok tt ≡ left.answer) where
+    pub left-struck : left ≡ left_of text lost
+    left-struck = e ∙ read-left-accepted text lost (ap (λ (x : Answered Unit). (refusal_in x.answer).number) (sym e) ∙ ap (λ x. (refusal_in x).number) (sym w))
 
-  -- the plan that is left, or what refuses it
-  module _ {a : HeldAnswer} (e : a ≡ read_left text lost) where
-    first : R ≡ or_else a.refused of_text
-    unfolding rewrite_refusal
-    first =
-        sym (or_assoc of_reader left.refused of_text)
-        ∙ ap (λ r. or_else r of_text) (sym (ap (λ (x : HeldAnswer). x.refused) e ∙ read-left-refused text lost))
-
-    pub not_left : {r : TextAnswer} → ¬ (a.refused.number ≡ 0) → r ≡ refused_by a.refused → Rewrites text lost r room room slots slots
-    not_left n q = refused-rewrites (first ∙ or-refused a.refused of_text n) n q
-
-    pub left-written : {w : HeldText} {after past : List ℕ} → a.refused.number ≡ 0 → Writes a.held w room after slots past →
-        Rewrites text lost w.answer room after slots past
-    left-written z W =
-        let d : a ≡ left = e ∙ read-left-accepted text lost (ap (λ (x : HeldAnswer). x.refused.number) (sym e) ∙ z) in
-        let S : R ≡ text_refusal a.held (length room) (length slots)
-        = first ∙ or-accepted a.refused of_text z ∙ ap (λ (x : HeldAnswer). text_refusal x.held (length room) (length slots)) (sym d) in
-        rewrites (rw (S, ← d) (answers a.held room slots W))
+    pub left-written : text_answer left.held a b ≡ rewrite_answer text lost a b
+    unfolding text_answer rewrite_answer
+    left-written =
+        rw (first, ← w) (ap (λ (x : Answered Unit). answered (text_refusal x.held a b) (sizes (text_in x.held) (standing_in x.held))) left-struck)

@@ -23,9 +23,9 @@ fn list<R: Env + Files, O: Write, E: Write>(
     }
     let size = read.size;
     let mut lines = [0u8; MOST_BYTES];
-    let answer = listing_lines::listing(&text[..size], &mut lines);
-    let bytes = answer.bytes;
-    console::write(output, errors, &lines[..bytes]);
+    if let Ok(bytes) = listing_lines::listing(&text[..size], &mut lines) {
+        console::write(output, errors, &lines[..bytes]);
+    }
 }
 
 fn main(rt: HostRuntime) {

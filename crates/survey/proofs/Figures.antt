@@ -2,7 +2,7 @@
 use Rattle.exact.proofs.Ground.{true, false, Bool, List, [], ◌∷◌, map, ◌≡◌, refl, ℕ}
 use Rattle.exact.specs.Lists.{from}
 use Rattle.rules.specs.Plan.{Plan, plan, level, every_column, every_run}
-use Rattle.rules.specs.Refusals.{of_plan, first_bad_level, first_bad_entry}
+use Rattle.rules.specs.Refusals.{of_plan, refusal_in, first_bad_level, first_bad_entry}
 use Rattle.survey.specs.Survey.{occurs, alike, first_alike, occurs_answer, alike_answer}
 
 abbrev made : Plan
@@ -33,10 +33,10 @@ none-repeated = refl
 
 -- the number of the refusal where a column and a level are asked, and where a run is
 abbrev ask_level : Plan → ℕ → ℕ → ℕ
-ask_level p i e = (occurs_answer p (every_run p) (of_plan p) i e).refused.number
+ask_level p i e = (refusal_in (occurs_answer p (every_run p) (of_plan p) i e)).number
 
 abbrev ask_run : Plan → ℕ → ℕ
-ask_run p f = (alike_answer p (every_run p) (of_plan p) f).refused.number
+ask_run p f = (refusal_in (alike_answer p (every_run p) (of_plan p) f)).number
 
 out_of_range : ask_level made 2 0 ∷ ask_level made 1 3 ∷ ask_level made 1 2 ∷ ask_run made 4 ∷ ask_run made 3 ∷ [] ≡ 8 ∷ 8 ∷ 0 ∷ 8 ∷ 0 ∷ []
 unfolding occurs_answer alike_answer first_bad_level first_bad_entry

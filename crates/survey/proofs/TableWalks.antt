@@ -1,10 +1,13 @@
 -- A turn of the loops over the runs and over the columns: the present one, and those left.
-use Rattle.exact.proofs.Ground.{true, false, Bool, [], ◌∷◌, ◌≡◌, sym, ℕ, ◌≤◌, ◌<◌, ◌-◌, ◌+◌, ◌*◌, suc, add-one, arith, eqb, length, ne_eqb, eq-eqb}
+use Rattle.exact.proofs.Ground.{true, false, ◌&&◌, List, [], ◌∷◌, ◌≡◌, sym, ap, refl, ℕ, ◌≤◌, ◌<◌, ◌-◌, ◌+◌, ◌*◌, suc, zero, add-zero, add-one, arith, eqb}
+use Rattle.exact.proofs.Ground.{length, get_or, take, drop, drop-cons, ne_eqb, eq-eqb}
+use Rattle.std.proofs.Common.{slice_range, add-suc}
+use lib.Pointwise.{pointwise}
 use Rattle.exact.specs.Lists.{from, all}
 use Rattle.exact.proofs.Numbers.{row_within, mul-below}
 use Rattle.rules.specs.Plan.{Plan, columns, runs, entry, most_columns, most_runs}
 use Rattle.plan.specs.Good.{Good}
-use Rattle.survey.specs.Survey.{occurs}
+use Rattle.survey.specs.Survey.{occurs, alike}
 
 -- ---- the numbers left, from a up to n
 
@@ -40,17 +43,27 @@ pub occurs-end : (p : Plan) (i e f : ℕ) → runs p ≤ f → occurs p (from f 
 unfolding occurs
 occurs-end p i e f h = rw (from_end f (runs p) h)
 
--- ---- whether two runs are alike in the columns from i on
+-- ---- whether two runs are alike
 
-abbrev pub alike_from : Plan → ℕ → ℕ → ℕ → Bool
-alike_from p f g i = all (from i (columns p - i)) (λ i. eqb (entry p f i) (entry p g i))
+-- n numbers of a list from place x on, and n from place y on: the same where they are equal place by place. Those before place a are passed
+module _ (xs : List ℕ) (x y : ℕ) where
+  places-alike : (a n : ℕ) → x + a + n ≤ length xs → y + a + n ≤ length xs →
+      pointwise eqb (take n (drop (x + a) xs)) (take n (drop (y + a) xs)) ≡ all (from a n) (λ i. eqb (get_or xs (x + i) 0) (get_or xs (y + i) 0))
+  places-alike a zero h k = refl
+  places-alike a (suc n) h k =
+      let hx : x + a < length xs = omega arith in
+      let hy : y + a < length xs = omega arith in
+      rw (drop-cons xs (x + a) 0 hx, drop-cons xs (y + a) 0 hy)
+      (ap (λ b. eqb (get_or xs (x + a) 0) (get_or xs (y + a) 0) && b)
+      (rw (← add-suc x a, ← add-suc y a) (places-alike (suc a) n (omega arith) (omega arith))))
 
-module _ (p : Plan) (f g i : ℕ) (h : i < columns p) where
-  pub differs-here : ¬ (entry p f i ≡ entry p g i) → alike_from p f g i ≡ false
-  differs-here q = rw (from_on i (columns p) h, ne_eqb (entry p f i) (entry p g i) q)
-
-  pub alike-on : entry p f i ≡ entry p g i → alike_from p f g i ≡ alike_from p f g (i + 1)
-  alike-on q = rw (from_on i (columns p) h, eq-eqb (entry p f i) (entry p g i) q)
-
-pub alike_end : (p : Plan) (f g i : ℕ) → columns p ≤ i → alike_from p f g i ≡ true
-alike_end p f g i h = rw (from_end i (columns p) h)
+pub rows-alike : (p : Plan) (f g : ℕ) → Inside p f → Inside p g →
+    let m = columns p in pointwise eqb (slice_range p.table (f * m) (f * m + m)) (slice_range p.table (g * m) (g * m + m)) ≡ alike p f g
+unfolding alike
+rows-alike p f g F G =
+    let m = columns p in
+    let x = f * m in
+    let y = g * m in
+    let wx : x + m - x ≡ m = omega arith in
+    let wy : y + m - y ≡ m = omega arith in
+    rw (wx, wy) (rw (add-zero x, add-zero y) at (places-alike p.table x y 0 m (omega (arith, F)) (omega (arith, G))))

@@ -1,10 +1,9 @@
 -- Document 01, "Sizes": a level that never occurs still counts, and repeated runs are allowed. This is which levels and runs those are.
-use Rattle.std.specs.Prelude.{Bool, false, List, [], ◌∷◌, map, ℕ, eqb, get_or}
+use Rattle.std.specs.Prelude.{Bool, List, [], ◌∷◌, map, ℕ, eqb, get_or, Result}
 use Rattle.exact.specs.Lists.{all, keep, holds}
 use Rattle.rules.specs.Plan.{Plan, columns, runs, level, entry, every_column}
-use Rattle.rules.specs.Refusals.{Check, refusal, unless, bad_place}
-use Rattle.survey.specs.declared.OccursAnswer.{OccursAnswer}
-use Rattle.survey.specs.declared.AlikeAnswer.{AlikeAnswer}
+use Rattle.rules.specs.declared.Refusal.{Refusal}
+use Rattle.rules.specs.Refusals.{Check, refusal, answered, bad_place}
 
 module _ (p : Plan) where
   -- whether level e occurs in column i: some run has that entry
@@ -20,12 +19,9 @@ module _ (p : Plan) where
   first_alike rs f = get_or (keep (alike f) rs) 0 f
 
   -- what is answered of column i and its level e
-  unfoldable pub occurs_answer : List ℕ → (List Check → List Check) → ℕ → ℕ → OccursAnswer
-  occurs_answer rs start i e =
-      let r = refusal (start (bad_place (columns p) i ∷ bad_place (level p i) e ∷ [])) in
-      record { refused = r; occurs = unless r false (occurs rs i e) }
+  unfoldable pub occurs_answer : List ℕ → (List Check → List Check) → ℕ → ℕ → Result Bool Refusal
+  occurs_answer rs start i e = answered (refusal (start (bad_place (columns p) i ∷ bad_place (level p i) e ∷ []))) (occurs rs i e)
 
   -- what is answered of run f
-  unfoldable pub alike_answer : List ℕ → (List Check → List Check) → ℕ → AlikeAnswer
-  alike_answer rs start f =
-      let r = refusal (start (bad_place (runs p) f ∷ [])) in record { refused = r; run = unless r 0 (first_alike rs f) }
+  unfoldable pub alike_answer : List ℕ → (List Check → List Check) → ℕ → Result ℕ Refusal
+  alike_answer rs start f = answered (refusal (start (bad_place (runs p) f ∷ []))) (first_alike rs f)

@@ -25,12 +25,7 @@ fn are_alike(levels: &[u8], table: &[u8], f: usize, g: usize) -> bool
     ensures { result ≡ alike (plan levels.now table.now) f g }
 {
     let m = levels.len();
-    for i in 0..m {
-        if table[f * m + i] != table[g * m + i] {
-            return false;
-        }
-    }
-    true
+    table[f * m..f * m + m] == table[g * m..g * m + m]
 }
 
 // The first run with the same entries: an earlier one, or the run itself.

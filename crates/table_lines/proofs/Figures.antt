@@ -40,5 +40,6 @@ figures =
 
 pub printed :
     map (λ f. table_listing f.of (every_run f.of) f.relative f.size (λ checks. checks)) figures ≡ map (λ f. f.printed) figures
-unfolding gcd reduced smaller_fraction score word_of word value_of relative_of resolution table_of absolute_table relative_table decimal table_lines table_listing
+unfolding gcd reduced smaller_fraction score word_of word value_of relative_of resolution table_of absolute_table relative_table decimal table_lines
+    table_listing
 printed = refl

@@ -1,19 +1,20 @@
 -- Rooms of 10,626 places hold every table, so that no table that is printed is refused by 7; and the lines in them are those of the table.
-use Rattle.exact.proofs.Ground.{true, false, Bool, cond, ◌||◌, ◌&&◌, List, ◌∷◌, [], ◌++◌, ◌≡◌, ◌∙◌, sym, ap, refl, ap₂, ℕ, ◌≤◌, arith, eqb, ltb, length, replicate}
-use Rattle.exact.proofs.Ground.{length-map, length-replicate, le-ltb, eqb-true, eqb-false}
+use Rattle.exact.proofs.Ground.{true, false, Bool, cond, ◌||◌, ◌&&◌, List, ◌++◌, ◌≡◌, ◌∙◌, ap, refl, ap₂, ℕ, ◌≤◌, arith, ltb, length, replicate}
+use Rattle.exact.proofs.Ground.{sym, length-map, length-replicate, le-ltb}
 use Rattle.exact.specs.Lists.{each, outside}
 use Rattle.rules.specs.declared.Refusal.{Refusal}
 use Rattle.rules.specs.Plan.{Plan, columns}
-use Rattle.rules.specs.Refusals.{refusal, accepted, plain, or_else}
-use Rattle.rules.proofs.Ranges.{unless-accepted, or-refused, or-neither}
+use Rattle.std.specs.Prelude.{Ok, Err}
+use Rattle.rules.specs.Refusals.{refusal, accepted, plain, answered}
+use Rattle.rules.proofs.Answered.{err-again, ok-accepted, ok-is}
+use Rattle.rules.proofs.Ranges.{unless-accepted}
 use Rattle.sets.specs.Sets.{sets_of}
 use Rattle.sets.proofs.Pascal.{many-sets}
 use Rattle.set_words.specs.Given.{SizeOf, Tabled}
 use Rattle.set_words.specs.SetWords.{value_in}
 use Rattle.set_words.proofs.Answers.{size-given}
 use Rattle.resolution.specs.Resolution.{resolution_in}
-use Rattle.projection_tables.specs.declared.TableAnswer.{TableAnswer}
-use Rattle.projection_tables.specs.Tables.{Line, Rooms, rooms, shortest, table_in, lines_in, rooms_filled, table_checks, table_beside, rooms_beside}
+use Rattle.projection_tables.specs.Tables.{Line, Rooms, rooms, shortest, table_in, lines_in, rooms_filled, table_checks, rooms_beside}
 use Rattle.projection_tables.specs.Given.{Wide}
 use Rattle.projection_tables.proofs.Answers.{lines-held}
 use Rattle.projection_tables.proofs.Walks.{few-sets, table-right, lines-filled}
@@ -61,40 +62,34 @@ module _ (p : Plan) (rs : List ℕ) (relative : Bool) (f : ℕ) where
       go true e b = refl
       go false e b = rw (le-ltb (shortest blank) (length values) (omega (arith, few-lines G (sized e), blank-long))) refl
 
-  module _ (q : Refusal) (S : q.number ≡ 0 → Tabled p rs) {t : TableAnswer} {R : Rooms}
-      (e : t ≡ table_beside values (or_else q (refusal (table_checks p rs relative f blank))))
-      (d : R ≡ rooms_beside values blank (or_else q (refusal (table_checks p rs relative f blank)))) where
+  module _ (G : Tabled p rs) where
     abbrev whole : Refusal
-    whole = or_else q (refusal (table_checks p rs relative f blank))
+    whole = refusal (table_checks p rs relative f blank)
 
-    pub table-refusal : t.refused ≡ or_else q (refusal (print_checks p rs relative f))
-    table-refusal = ap (λ t. t.refused) e ∙ go (eqb q.number 0) refl
-      where
-        go : (b : Bool) → eqb q.number 0 ≡ b → whole ≡ or_else q (refusal (print_checks p rs relative f))
-        go true y = ap (or_else q) (checks-printed (S (eqb-true q.number 0 y)))
-        go false y =
-            let n = eqb-false q.number 0 y in
-            or-refused q (refusal (table_checks p rs relative f blank)) n ∙ sym (or-refused q (refusal (print_checks p rs relative f)) n)
+    pub refused-lines : {e : Refusal} → Err e ≡ answered whole (length values) →
+        Err e ≡ answered (refusal (print_checks p rs relative f)) (tt {0})
+    refused-lines w = rw (← checks-printed G) (err-again whole (length values) w (tt {0}))
 
-    module _ (z : t.refused.number ≡ 0) where
+    module _ {n : ℕ} {R : Rooms} (e : Ok n ≡ answered whole (length values)) (d : R ≡ rooms_beside values blank whole) where
       passed : whole.number ≡ 0
-      passed = sym (ap (λ t. t.refused.number) e) ∙ z
+      passed = ok-accepted whole (length values) e
 
-      lines_are : t.lines ≡ length values
-      lines_are = ap (λ t. t.lines) e ∙ unless-accepted whole 0 (length values) passed
+      pub given-passed : (refusal (print_checks p rs relative f)).number ≡ 0
+      given-passed = ap (λ r. r.number) (sym (checks-printed G)) ∙ passed
+
+      lines_are : n ≡ length values
+      lines_are = ok-is whole (length values) e
 
       rooms-are : R ≡ rooms_filled values blank
       rooms-are = d ∙ unless-accepted whole blank (rooms_filled values blank) passed
 
-      pub given-few : t.lines ≤ most_lines
-      given-few =
-          let (y, own) = or-neither q (refusal (table_checks p rs relative f blank)) passed in
-          omega (arith, lines_are, few-lines (S y) (passed-sized own))
+      pub given-few : n ≤ most_lines
+      given-few = omega (arith, lines_are, few-lines G (passed-sized passed))
 
-      pub given-wide : Wide t.lines R
-      given-wide = let (a, b, c) = lines-held values blank R t.lines lines_are rooms-are in record { nums-wide = a; dens-wide = b; counts-wide = c }
+      pub given-wide : Wide n R
+      given-wide = let (a, b, c) = lines-held values blank R n lines_are rooms-are in record { nums-wide = a; dens-wide = b; counts-wide = c }
 
-      pub given-lines : head_line relative f t.lines ++ each (lines_in R t.lines) value_line ≡ table_lines p rs relative f
+      pub given-lines : head_line relative f n ++ each (lines_in R n) value_line ≡ table_lines p rs relative f
       unfolding table_lines
       given-lines =
           ap₂ (λ n ls. head_line relative f n ++ each ls value_line) lines_are

@@ -2,7 +2,7 @@
 ghost use Rattle.std.specs.Prelude.{◌≡◌, ◌+◌, ◌*◌, ◌≤◌, length};
 ghost use Rattle.exact.specs.Lists.{each};
 ghost use Rattle.rules.specs.Plan.{plan};
-ghost use Rattle.rules.specs.Refusals.{refusal, or_else};
+ghost use Rattle.rules.specs.Refusals.{refusal, answered, refusal_in};
 ghost use Rattle.projection_tables.specs.Tables.{rooms, lines_in};
 ghost use Rattle.projection_tables.specs.Given.{Wide, Ranked};
 ghost use Rattle.text.specs.Bytes.{Put};
@@ -11,7 +11,6 @@ ghost use Rattle.table_lines.specs.Given.{most_bytes};
 
 use lines::{Written, write_line, write_refused};
 use projection_tables::routines::table_answer;
-use rules::Refusal;
 
 // No table has more lines: there are so many sets of 4 of 24 columns.
 const MOST_LINES: usize = 10_626;
@@ -42,17 +41,16 @@ fn write_values(
         Put (each (lines_in R lines) value_line) (lines * 69) at room.old result room.new }
 {
     let mut end = at;
-    for k in 0..lines {
-        let numbers = [nums[k], dens[k], counts[k]];
+    for (k, num) in nums[..lines].iter().enumerate() {
+        let numbers = [*num, dens[k], counts[k]];
         end = write_line(b"value", &numbers, room, end);
     }
     end
 }
 
-// The lines of the table of some runs of a plan, whose words stand beside them, or the one line of the refusal, behind the refusal that the
-// call begins with: 6, then 16. The table is made in rooms that hold every table.
+// The lines of the table of some runs of a plan, whose words stand beside them, or the one line of the refusal: 6, then 16. The table is
+// made in rooms that hold every table.
 pub fn write_table(
-    refused: Refusal,
     levels: &[u8],
     table: &[u8],
     runs: &[usize],
@@ -61,18 +59,17 @@ pub fn write_table(
     relative: bool,
     room: &mut [u8],
 ) -> Written
-    requires ranked { refused.number ≡ 0 → Ranked (plan levels.now table.now) runs.now words.now relative }
+    requires ranked { Ranked (plan levels.now table.now) runs.now words.now relative }
     requires most_bytes_in_bounds { most_bytes ≤ length room.old }
-    ensures refused { let p = plan levels.now table.now in
-        result.refused ≡ or_else refused (refusal (print_checks p runs.now relative f)) }
+    ensures answer { let p = plan levels.now table.now in
+        result.answer ≡ answered (refusal (print_checks p runs.now relative f)) tt }
     ensures bytes { let p = plan levels.now table.now in
-        Put (lines_beside p runs.now relative f result.refused) most_bytes 0 room.old result.bytes room.new }
+        Put (lines_beside p runs.now relative f (refusal_in result.answer)) most_bytes 0 room.old result.bytes room.new }
 {
     let mut nums = [0u64; MOST_LINES];
     let mut dens = [0u64; MOST_LINES];
     let mut counts = [0u64; MOST_LINES];
-    let answer = table_answer(
-        refused,
+    let lines = match table_answer(
         levels,
         table,
         runs,
@@ -82,16 +79,14 @@ pub fn write_table(
         &mut nums,
         &mut dens,
         &mut counts,
-    );
-    let stopped = answer.refused;
-    if stopped.number != 0 {
-        return write_refused(stopped, room);
-    }
-    let lines = answer.lines;
+    ) {
+        Ok(lines) => lines,
+        Err(refused) => return write_refused(refused, room),
+    };
     let head = write_head(relative, f, lines, room, 0);
     let bytes = write_values(&nums, &dens, &counts, lines, room, head);
     Written {
-        refused: stopped,
         bytes,
+        answer: Ok(()),
     }
 }

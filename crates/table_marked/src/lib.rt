@@ -6,13 +6,12 @@ ghost use Rattle.rules.specs.Plan.{plan};
 ghost use Rattle.projection_tables.specs.Tables.{rooms, table_answer, table_rooms};
 ghost use Rattle.marked.specs.Marked.{marked_runs, of_marked};
 
-use held::routines::Standing;
 use marked::marked_runs;
-use projection_tables::TableAnswer;
 use projection_tables::routines::table_answer;
+use rules::Refusal;
 use run_words::words_wanted;
 
-// The table for size f, absolute or relative, of the runs that stand.
+// The table for size f, absolute or relative, of the runs that stand: the number of its lines.
 pub fn table_marked(
     levels: &[u8],
     table: &[u8],
@@ -22,7 +21,7 @@ pub fn table_marked(
     nums: &mut [u64],
     dens: &mut [u64],
     counts: &mut [u64],
-) -> TableAnswer
+) -> Result<usize, Refusal>
     ensures answer { let p = plan levels.now table.now in
         let marks = marks.entry.now in
         let R = rooms nums.old dens.old counts.old in
@@ -32,20 +31,8 @@ pub fn table_marked(
         let R = rooms nums.old dens.old counts.old in
         rooms nums.new dens.new counts.new ≡ table_rooms p (marked_runs p marks) (of_marked p marks) relative f R }
 {
-    let standing: Standing = marked_runs(levels, table, marks);
-    let runs = standing.runs;
-    let count = standing.count;
-    let words = words_wanted(relative, standing.refused, levels, table, &runs[..count]);
-    table_answer(
-        standing.refused,
-        levels,
-        table,
-        &runs[..count],
-        &words,
-        f,
-        relative,
-        nums,
-        dens,
-        counts,
-    )
+    let standing = marked_runs(levels, table, marks)?;
+    let runs = standing.as_slice();
+    let words = words_wanted(relative, levels, table, runs);
+    table_answer(levels, table, runs, &words, f, relative, nums, dens, counts)
 }

@@ -23,10 +23,9 @@ fn main(rt: HostRuntime) {
     }
     let size = read.size;
     let mut lines = table_text::routines::lines_room();
-    let answer: Written = write_text(&text[..size], &lost[..losses], f, relative, &mut lines);
-    let bytes = answer.bytes;
-    let refused = answer.refused;
-    if refused.number != 0 {
+    let written: Written = write_text(&text[..size], &lost[..losses], f, relative, &mut lines);
+    let bytes = written.bytes;
+    if let Err(refused) = written.answer {
         console::refuse(
             &mut output,
             &mut errors,

@@ -1,7 +1,7 @@
 -- The turns of the loops: a pair counted or added, the pairs of a run one after the other, and the cells added at the end.
-use Rattle.exact.proofs.Ground.{List, [], ◌∷◌, ◌++◌, ◌≡◌, ◌∙◌, sym, ap, refl, subst, ℕ, ◌≤◌, ◌<◌, ◌+◌, ◌*◌, suc, zero, ◌^◌, ◌/◌, ◌%◌, dec_lt, zero-add, le_trans}
-use Rattle.exact.proofs.Ground.{mul-le-mul_right, arith, pos, ℤ, nat_abs, ◌*ℤ◌, ◌+ℤ◌, +ℤ_idr, +ℤ_comm, zero-*ℤ, length, get_or, take, drop, set, length-set, length-take-le}
-use Rattle.exact.proofs.Ground.{get_or-take, get_or-eq_default, replicate, length-replicate}
+use Rattle.exact.proofs.Ground.{List, [], ◌∷◌, ◌++◌, ◌≡◌, ◌∙◌, sym, ap, refl, subst, ℕ, ◌≤◌, ◌<◌, ◌+◌, ◌*◌, suc, zero, ◌^◌, ◌/◌, ◌%◌}
+use Rattle.exact.proofs.Ground.{dec_lt, zero-add, le_trans, mul-le-mul_right, arith, pos, ℤ, nat_abs, ◌*ℤ◌, ◌+ℤ◌, +ℤ_idr, +ℤ_comm, zero-*ℤ}
+use Rattle.exact.proofs.Ground.{length, get_or, take, drop, set, length-set, length-take-le, get_or-take, get_or-eq_default, replicate, length-replicate}
 use Rattle.exact.specs.Lists.{from, sum}
 use Rattle.exact.proofs.Numbers.{map-from-cong, length-map-from, length_from, from-snoc}
 use Rattle.exact.proofs.Order.{nat_abs-*-≤}

@@ -5,7 +5,7 @@ ghost use Rattle.rules.specs.Plan.{plan, runs, every_run};
 ghost use Rattle.plan.specs.Good.{Good, Sound};
 ghost use Rattle.pairs.specs.Given.{Row, once_list};
 ghost use Rattle.pairs.specs.Lists.{row_list};
-ghost use Rattle.cells.specs.Cells.{Strides, pair_row};
+ghost use Rattle.cells.specs.Cells.{window, Strides, pair_row};
 ghost use Rattle.tally.specs.Tally.{added_times, Runs, Tally, Few, worth, Counted, Lent};
 
 use cells::routines::cell;
@@ -18,9 +18,9 @@ pub fn add_times(total: &mut [i64; 24], more: &[i64], times: u16)
     requires { Row (2 ^ 61) total.old × Row (2 ^ 32) more.now }
     ensures { total.new ≡ added_times times total.old more.now }
 {
-    let times = signed::of_size(times as usize);
-    for j in 0..24 {
-        total[j] = signed::add(total[j], signed::mul(times, more[j]));
+    let times = signed::of_size(usize::from(times));
+    for (j, sum) in total.iter_mut().enumerate() {
+        *sum = signed::add(*sum, signed::mul(times, more[j]));
     }
 }
 
@@ -40,7 +40,7 @@ pub fn tally(
     ensures { let p = plan levels.now table.now in
         Counted p 1 (pair_row p f g) total.old counts.old samples.old total.new counts.new samples.new }
 {
-    let c = cell(strides, levels, table, f, g) as usize;
+    let c = usize::from(cell(strides, levels, table, f, g));
     if c < counts.len() {
         counts[c] += 1;
         samples[c] = (f * 256 + g) as u16;
@@ -81,9 +81,7 @@ pub fn settle_cell(total: &mut [i64; 24], levels: &[u8], table: &[u8], times: u1
     if times == 0 {
         return;
     }
-    let f = (x / 256) as usize;
-    let g = (x % 256) as usize;
-    let sums = pair(levels, table, f, g);
+    let sums = pair(levels, table, usize::from(x / 256), usize::from(x % 256));
     add_times(total, &sums[1..], times);
 }
 
@@ -93,8 +91,8 @@ fn settle(total: &mut [i64; 24], counts: &[u16], samples: &[u16], levels: &[u8],
     ensures { let p = plan levels.now table.now in
         total.new ≡ worth p total.old counts.now samples.now }
 {
-    for c in 0..counts.len() {
-        settle_cell(total, levels, table, counts[c], samples[c]);
+    for (times, x) in counts.iter().zip(samples) {
+        settle_cell(total, levels, table, *times, *x);
     }
 }
 
@@ -110,24 +108,26 @@ fn once_by_cells(
     ensures { let p = plan levels.now table.now in result ≡ once_list p (every_run p) }
 {
     let mut total = [0i64; 24];
-    let mut f = table.len() / levels.len();
-    while 0 < f {
-        f -= 1;
+    for f in (0..table.len() / levels.len()).rev() {
         tally_later(&mut total, counts, samples, strides, levels, table, f);
     }
     settle(&mut total, counts, samples, levels, table);
     total
 }
 
-// The same, with counters for those cells that the plan may have, of the counters lent.
-// In its caller, a word takes less than 2,048 bytes of stack.
-#[inline(always)]
-fn once_in(counts: &mut [u16], samples: &mut [u16], levels: &[u8], table: &[u8]) -> [i64; 24]
-    requires { Good (plan levels.now table.now) × Lent counts.old samples.old }
+// What each pair of different runs of an accepted plan adds to the words, once, with counters for those cells that the plan may have, N at
+// most. A plan of few runs has few pairs in a cell.
+pub fn once<const N: usize>(levels: &[u8], table: &[u8]) -> [i64; 24]
+    requires { Good (plan levels.now table.now) × (N ≤ window) }
     ensures { let p = plan levels.now table.now in result ≡ once_list p (every_run p) }
 {
+    if table.len() / levels.len() < 12 {
+        return pairs::routines::once(levels, table);
+    }
     let strides = strides_of(levels);
-    let places = places_of(&strides, levels, counts.len());
+    let places = places_of(&strides, levels, N);
+    let mut counts = [0u16; N];
+    let mut samples = [0u16; N];
     once_by_cells(
         &mut counts[..places],
         &mut samples[..places],
@@ -135,30 +135,4 @@ fn once_in(counts: &mut [u16], samples: &mut [u16], levels: &[u8], table: &[u8])
         levels,
         table,
     )
-}
-
-// What each pair of different runs of an accepted plan adds to the words, once. A plan of few runs has few pairs in a cell.
-pub fn once(levels: &[u8], table: &[u8]) -> [i64; 24]
-    requires { Good (plan levels.now table.now) }
-    ensures { let p = plan levels.now table.now in result ≡ once_list p (every_run p) }
-{
-    if table.len() / levels.len() < 12 {
-        return pairs::routines::once(levels, table);
-    }
-    let mut counts = [0u16; 1024];
-    let mut samples = [0u16; 1024];
-    once_in(&mut counts, &mut samples, levels, table)
-}
-
-// The same in less than 2,048 bytes of stack. The counters are enough for every plan whose columns have one or two levels.
-pub fn once_in_little_room(levels: &[u8], table: &[u8]) -> [i64; 24]
-    requires { Good (plan levels.now table.now) }
-    ensures { let p = plan levels.now table.now in result ≡ once_list p (every_run p) }
-{
-    if table.len() / levels.len() < 12 {
-        return pairs::routines::once(levels, table);
-    }
-    let mut counts = [0u16; 168];
-    let mut samples = [0u16; 168];
-    once_in(&mut counts, &mut samples, levels, table)
 }

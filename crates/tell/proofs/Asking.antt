@@ -1,20 +1,17 @@
 -- What a call that is not refused is given.
-use Rattle.exact.proofs.Ground.{◌≡◌, true, false, List, [], ◌∷◌, ℕ, ◌≤◌, ◌<◌, eq-eqb, ne_eqb, lt-ltb, le-ltb, ltb, ltb→lt, Bool, not, ◌&&◌, refl}
+use Rattle.exact.proofs.Ground.{◌≡◌, true, false, List, [], ◌∷◌, ℕ, ◌≤◌, ◌<◌, lt-ltb, le-ltb, ltb, ltb→lt, not, ◌&&◌, refl}
 use Rattle.exact.proofs.Ground.{mem-head, T}
 use Rattle.exact.specs.Lists.{holds}
 use Rattle.exact.proofs.Tests.{true-is, both, not-true}
-use Rattle.rules.specs.Plan.{Plan, columns, entry}
+use Rattle.rules.specs.Plan.{Plan, columns}
 use Rattle.rules.specs.Refusals.{refusal, accepted, plain, is_set}
 use Rattle.rules.specs.declared.Refusal.{Refusal}
 use Rattle.rules.proofs.Order.{passed_none}
 use Rattle.plan.specs.Good.{Sound}
 use Rattle.set_words.specs.Given.{Projection}
 use Rattle.set_words.proofs.Answers.{set_given}
-use Rattle.tell.specs.declared.Joins.{Joins}
-use Rattle.tell.specs.declared.TellAnswer.{TellAnswer}
 use Rattle.tell.specs.Given.{Asked}
-use Rattle.tell.specs.Evidence.{tells, most_groups, evidence}
-use Rattle.tell.specs.Answer.{bad_asked, tell_checks, zero_joins, tell_beside}
+use Rattle.tell.specs.Answer.{bad_asked, tell_checks}
 
 -- ---- the one check of its own
 
@@ -46,13 +43,3 @@ module _ (p : Plan) (rs : List ℕ) (a : ℕ) (J : List ℕ) (S : Sound p rs) {r
 
   pub asked-given : Asked p rs a J
   asked-given = record { sound = S; column = (asked-passed (columns p) a J e z).0; others = asked-projection.inside }
-
--- ---- the answer: blank in a refusal, and else that of the walk
-
-module _ (p : Plan) (rs : List ℕ) (a : ℕ) (J : List ℕ) {q r : Refusal} (e : q ≡ r) where
-  pub tell-refused : ¬ (r.number ≡ 0) → ◌≡◌ {A = TellAnswer} (record { refused = r; tells = false; joins = zero_joins }) (tell_beside p rs q a J)
-  tell-refused n = rw (e, ne_eqb r.number 0 n)
-
-  pub tell-accepted : r.number ≡ 0 → (b : Bool) (j : Joins) → b ≡ tells (entry p) a J most_groups rs → j ≡ evidence p rs a J →
-      ◌≡◌ {A = TellAnswer} (record { refused = r; tells = b; joins = j }) (tell_beside p rs q a J)
-  tell-accepted z b j d c = rw (e, eq-eqb r.number 0 z, d, c)

@@ -2,7 +2,7 @@
 use Rattle.exact.proofs.Ground.{◌≡◌, refl, Bool, true, false, List, [], ◌∷◌, map, ℕ, ℤ, pos}
 use Rattle.exact.specs.Fractions.{reduced, gcd}
 use Rattle.rules.specs.Plan.{Plan, plan, level, entry, every_run}
-use Rattle.rules.specs.Refusals.{of_plan, first_bad_level, first_bad_entry}
+use Rattle.rules.specs.Refusals.{refusal_in, of_plan, first_bad_level, first_bad_entry}
 use Rattle.words.specs.Words.{score, word_of}
 use Rattle.tell.specs.Evidence.{groups, links, tells}
 use Rattle.tell.specs.Answer.{tell_answer}
@@ -130,7 +130,7 @@ words-chained = refl
 asked : List (ℕ × List ℕ)
 asked = (0, 1 ∷ 2 ∷ []) ∷ (0, []) ∷ (4, 1 ∷ []) ∷ (0, 2 ∷ 1 ∷ []) ∷ (0, 1 ∷ 1 ∷ []) ∷ (0, 1 ∷ 4 ∷ []) ∷ (1, 1 ∷ 2 ∷ []) ∷ []
 
-refusals : map (λ q. (tell_answer humidity (every_run humidity) (of_plan humidity) q.0 q.1).refused.number) asked
+refusals : map (λ q. (refusal_in (tell_answer humidity (every_run humidity) (of_plan humidity) q.0 q.1)).number) asked
     ≡ 0 ∷ 0 ∷ 8 ∷ 8 ∷ 8 ∷ 8 ∷ 8 ∷ []
 unfolding asked tell_answer first_bad_level first_bad_entry
 refusals = refl

@@ -8,7 +8,7 @@ use Rattle.exact.proofs.Lists.{get_d_map}
 use Rattle.rules.specs.Plan.{Plan, entry}
 use Rattle.plan.specs.Good.{Sound}
 use Rattle.words.proofs.OfPlan.{sound-run, sound-some}
-use Rattle.counts.proofs.Turns.{all-next, all-passed, alike-rest}
+use Rattle.counts.proofs.Turns.{all-next, all-passed}
 use Rattle.tell.specs.Evidence.{group_of, agree, tells, evidence, most_groups}
 use Rattle.tell.specs.declared.Joins.{Joins}
 use Rattle.tell.specs.Given.{Asked, joins_groups}
@@ -51,6 +51,11 @@ module _ (p : Plan) (a : ℕ) (J : List ℕ) (f g : ℕ) (names : List ℕ) (x y
       go false = refl
 
 -- ---- whether they are in one group
+
+-- the others are compared with the first
+alike-rest : (xs : List ℕ) → all (drop 1 xs) (λ y. eqb (get_or xs 0 0) y) ≡ alike xs
+alike-rest [] = refl
+alike-rest (x ∷ xs) = refl
 
 module _ (p : Plan) (a : ℕ) (rs : List ℕ) (names : List ℕ) where
   -- the groups of the levels that the runs have

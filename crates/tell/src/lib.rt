@@ -22,28 +22,18 @@ pub struct Joins {
     pub many: usize,
 }
 
-// The refusal, and beside it whether the runs tell, with the groups and the links; in a refusal false, and every number zero.
+// Whether the runs tell, with the groups and the links.
 #[derive(Clone, Copy)]
-pub struct TellAnswer {
-    pub refused: Refusal,
+pub struct Told {
     pub tells: bool,
     pub joins: Joins,
 }
 
 // Whether all runs of a plan can tell an effect of the column from the others, which rise and are without it, acting together.
-pub fn tell(levels: &[u8], table: &[u8], column: usize, others: &[usize]) -> TellAnswer
+pub fn tell(levels: &[u8], table: &[u8], column: usize, others: &[usize]) -> Result<Told, Refusal>
     ensures { let p = plan levels.now table.now in
         result ≡ tell_answer p (every_run p) (of_plan p) column others.now }
 {
-    let checked = plan::routines::checked_runs(levels, table);
-    let runs = checked.runs;
-    let count = checked.count;
-    routines::tell_answer(
-        checked.refused,
-        levels,
-        table,
-        &runs[..count],
-        column,
-        others,
-    )
+    let runs = plan::routines::checked_runs(levels, table)?;
+    routines::tell_answer(levels, table, runs.as_slice(), column, others)
 }

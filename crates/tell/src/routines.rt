@@ -2,73 +2,48 @@
 // words.
 ghost use Rattle.std.specs.Prelude.{◌≡◌, [], ◌∷◌, ◌≤◌, length};
 ghost use Rattle.rules.specs.Plan.{plan, level, entry};
-ghost use Rattle.rules.specs.Refusals.{refusal, or_else};
+ghost use Rattle.rules.specs.Refusals.{refusal, answered};
 ghost use Rattle.plan.specs.Good.{Sound};
 ghost use Rattle.set_words.specs.Given.{Projection};
 ghost use Rattle.tell.specs.Words.{words_figure};
-ghost use Rattle.tell.specs.Answer.{bad_asked, tell_checks, tell_beside};
+ghost use Rattle.tell.specs.Answer.{bad_asked, tell_checks, told};
 ghost use Rattle.tell.specs.Given.{Asked};
 
+use crate::Told;
 use crate::scores::mixed_words;
 use crate::walk::{evidence, in_one_group};
-use crate::{Joins, TellAnswer};
 use exact::fractions::{Fraction, reduced};
 use exact::signed;
 use rules::Refusal;
 use sets::routines::{holds, is_set};
 
 // Refusal 8: the column is not one of the m, the others are no set of them, or it is among them.
-pub fn check_asked(m: usize, column: usize, others: &[usize]) -> Refusal
-    ensures { result ≡ refusal (bad_asked m column others.now ∷ []) }
+pub fn check_asked(m: usize, column: usize, others: &[usize]) -> Result<(), Refusal>
+    ensures { result ≡ answered (refusal (bad_asked m column others.now ∷ [])) tt }
 {
-    if m <= column {
-        return Refusal::plain(8);
+    if m <= column || !is_set(m, others) || holds(others, column) {
+        return Err(Refusal::plain(8));
     }
-    if !is_set(m, others) {
-        return Refusal::plain(8);
-    }
-    if holds(others, column) {
-        return Refusal::plain(8);
-    }
-    Refusal::accepted()
+    Ok(())
 }
 
-// The answer for some runs of a plan, behind the refusal that the call begins with.
+// The answer for some runs of a plan.
 pub fn tell_answer(
-    refused: Refusal,
     levels: &[u8],
     table: &[u8],
     runs: &[usize],
     column: usize,
     others: &[usize],
-) -> TellAnswer
-    requires { refused.number ≡ 0 → Sound (plan levels.now table.now) runs.now }
+) -> Result<Told, Refusal>
+    requires { Sound (plan levels.now table.now) runs.now }
     ensures { let p = plan levels.now table.now in
         let J = others.now in
-        result ≡ tell_beside p runs.now (or_else refused (refusal (tell_checks p column J))) column J }
+        result ≡ answered (refusal (tell_checks p column J)) (told p runs.now column J) }
 {
-    let refused = refused.or_else(check_asked(levels.len(), column, others));
-    if refused.number != 0 {
-        let joins = Joins {
-            groups: [0; 16],
-            left: [0; 16],
-            right: [0; 16],
-            many: 0,
-        };
-        return TellAnswer {
-            refused,
-            tells: false,
-            joins,
-        };
-    }
+    check_asked(levels.len(), column, others)?;
     let joins = evidence(levels, table, runs, column, others);
-    let groups = joins.groups;
-    let tells = in_one_group(levels, table, runs, column, groups);
-    TellAnswer {
-        refused,
-        tells,
-        joins,
-    }
+    let tells = in_one_group(levels, table, runs, column, joins.groups);
+    Ok(Told { tells, joins })
 }
 
 // The words of the column with every part of the others, times its level less one, over the square of the number of runs: below one the

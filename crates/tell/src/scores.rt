@@ -1,14 +1,15 @@
 // The words of a column with every part of others, added up, from its scores for the pairs of runs in one cell.
 ghost use Rattle.std.specs.Prelude.{◌≡◌, [], ◌∷◌, ◌+◌, ◌≤◌, ◌<◌, length, get_or, drop};
 ghost use Rattle.exact.specs.Lists.{sum};
-ghost use Rattle.rules.specs.Plan.{plan, level, entry, highest_product};
-ghost use Rattle.counts.specs.Numbered.{product_of, Columns};
+ghost use Rattle.rules.specs.Plan.{plan, level, entry};
 ghost use Rattle.set_words.specs.Given.{Projection};
 ghost use Rattle.tell.specs.Words.{mixed_words};
 ghost use Rattle.tell.specs.Given.{Asked, cell_score};
 
 use crate::walk::{agree, level_of};
+use counts::routines::product_of;
 use exact::signed;
+use rules::sizes::HIGHEST_PRODUCT;
 
 // The score of the column for the runs f and g where they are in one cell, and else zero.
 fn cell_score(
@@ -44,11 +45,8 @@ fn later_scores(
         result ≡ sum (drop (at + 1) runs.now) (cell_score p column others.now (get_or runs.now at 0)) }
 {
     let f = runs[at];
-    let next = at + 1;
     let mut total: i64 = 0;
-    let mut k = runs.len();
-    while next < k {
-        k -= 1;
+    for k in (at + 1..runs.len()).rev() {
         total = signed::add(cell_score(levels, table, f, runs[k], column, others), total);
     }
     total
@@ -62,27 +60,11 @@ fn cell_scores(levels: &[u8], table: &[u8], runs: &[usize], column: usize, other
 {
     let own = pairs::routines::score(levels[column], 0, 0);
     let mut total: i64 = 0;
-    let mut k = runs.len();
-    while 0 < k {
-        k -= 1;
+    for k in (0..runs.len()).rev() {
         let later = later_scores(levels, table, runs, k, column, others);
         total = signed::add(signed::add(total, signed::mul(2, later)), own);
     }
     total
-}
-
-// How many combinations the columns have: the product of their levels.
-fn product_of(levels: &[u8], columns: &[usize]) -> u64
-    requires columns { Columns levels.now columns.now }
-    requires columns_bound { product_of (level (plan levels.now [])) columns.now ≤ highest_product }
-    ensures { result ≡ product_of (level (plan levels.now [])) columns.now }
-{
-    let mut product: u64 = 1;
-    for k in 0..columns.len() {
-        let i = columns[k];
-        product *= levels[i] as u64;
-    }
-    product
 }
 
 // The words of the column with every part of the others, the empty one too: each pair in one cell counts for as many parts of them as the
@@ -98,6 +80,7 @@ pub(crate) fn mixed_words(
     ensures { let p = plan levels.now table.now in
         result ≡ mixed_words (level p) (entry p) runs.now column others.now }
 {
-    let product = signed::of_u64(product_of(levels, others));
-    signed::mul(product, cell_scores(levels, table, runs, column, others))
+    let product = product_of(levels, others, HIGHEST_PRODUCT as usize);
+    let scores = cell_scores(levels, table, runs, column, others);
+    signed::mul(signed::of_size(product), scores)
 }

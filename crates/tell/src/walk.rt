@@ -16,9 +16,8 @@ pub(crate) fn agree(levels: &[u8], table: &[u8], f: usize, g: usize, columns: &[
     let m = levels.len();
     let a = f * m;
     let b = g * m;
-    for k in 0..columns.len() {
-        let i = columns[k];
-        if table[a + i] != table[b + i] {
+    for i in columns {
+        if table[a + *i] != table[b + *i] {
             return false;
         }
     }
@@ -56,8 +55,8 @@ fn joined(groups: [u8; 16], p: u8, q: u8) -> [u8; 16]
     ensures { result ≡ map (renamed p q) groups }
 {
     let mut names = groups;
-    for x in 0..16 {
-        names[x] = renamed(p, q, names[x]);
+    for name in &mut names {
+        *name = renamed(p, q, *name);
     }
     names
 }
@@ -102,7 +101,7 @@ fn joins_groups(
     requires x_value { x ≡ entry (plan levels.now table.now) f column }
     ensures { result ≡ joins_groups (plan levels.now table.now) column others.now groups f g }
 {
-    let y = level_of(levels, table, g, column) as usize;
+    let y = usize::from(level_of(levels, table, g, column));
     if groups[x] == groups[y] {
         return false;
     }
@@ -127,7 +126,7 @@ fn met_later(
         result ≡ after_run p column others.now (get_or runs.now at 0) (drop (at + 1) runs.now) joins }
 {
     let f = runs[at];
-    let x = level_of(levels, table, f, column) as usize;
+    let x = usize::from(level_of(levels, table, f, column));
     let mut state = joins;
     for k in at + 1..runs.len() {
         if state.many == last {
@@ -136,7 +135,7 @@ fn met_later(
         let g = runs[k];
         let groups = state.groups;
         if joins_groups(levels, table, f, x, g, column, others, groups) {
-            let y = level_of(levels, table, g, column) as usize;
+            let y = usize::from(level_of(levels, table, g, column));
             let after = met(state, f, g, x, y);
             state = after;
         }
@@ -156,7 +155,7 @@ pub(crate) fn evidence(
     ensures { let p = plan levels.now table.now in
         result ≡ evidence p runs.now column others.now }
 {
-    let last = levels[column] as usize - 1;
+    let last = usize::from(levels[column]) - 1;
     let groups: [u8; 16] = [0, 1, 2, 3, 4, 5, 6, 7, 8, 9, 10, 11, 12, 13, 14, 15];
     let left = [0usize; 16];
     let right = [0usize; 16];
@@ -191,9 +190,9 @@ pub(crate) fn in_one_group(
     if runs.len() == 0 {
         return true;
     }
-    let first = level_of(levels, table, runs[0], column) as usize;
+    let first = usize::from(level_of(levels, table, runs[0], column));
     for k in 1..runs.len() {
-        let level = level_of(levels, table, runs[k], column) as usize;
+        let level = usize::from(level_of(levels, table, runs[k], column));
         if groups[level] != groups[first] {
             return false;
         }

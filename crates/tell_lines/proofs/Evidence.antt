@@ -1,5 +1,5 @@
 -- The groups and links that the routine answers: its pairs lie in the plan, and its lines are those of the definition.
-use Rattle.exact.proofs.Ground.{List, [], ◌∷◌, map, Memᴰ, mem-not_nil, ◌≡◌, ◌∙◌, sym, ap, refl, ap₂, ℕ, ◌≤◌, ◌<◌, arith, length, get_or}
+use Rattle.exact.proofs.Ground.{List, [], ◌∷◌, map, Memᴰ, mem-not_nil, ◌≡◌, ◌∙◌, sym, ap, ap₂, ℕ, ◌≤◌, ◌<◌, arith, length, get_or}
 use Rattle.exact.proofs.Ground.{length-map, get_or-take}
 use Rattle.exact.specs.Lists.{from, each, filled_to}
 use Rattle.exact.proofs.Lists.{get_d_map}

@@ -5,6 +5,8 @@ use Rattle.exact.specs.Lists.{holds, first}
 use Rattle.exact.proofs.Members.{get_or-mem, mem-holds, holds-mem}
 use Rattle.exact.proofs.Searches.{first-is, first-unique}
 use Rattle.exact.proofs.Tests.{is_true, true-is}
+use Rattle.std.specs.Prelude.{Option, None, Some, MatchOption, unwrap_or}
+use Rattle.std.specs.List.{AllWithin, HoldsAt}
 use Rattle.tell_lines.specs.Parts.{place_of}
 
 -- a number that is held has a place
@@ -68,17 +70,10 @@ module _ (xs : List ℕ) (low end : ℕ) where
 
 module _ (xs : List ℕ) (number : ℕ) where
   -- none of the first k places holds it
-  abbrev pub NoneTo : ℕ → Type 0
+  abbrev NoneTo : ℕ → Type 0
   NoneTo k = (i : ℕ) → i < k → ¬ (get_or xs i 0 ≡ number)
 
-  pub none-next : (k : ℕ) → NoneTo k → ¬ (get_or xs k 0 ≡ number) → NoneTo (k + 1)
-  none-next k N n i h = go (ℕ_discrete i k)
-    where
-      go : Dec (i ≡ k) → ¬ (get_or xs i 0 ≡ number)
-      go (yes e) = rw e n
-      go (no m) = N i (omega arith)
-
-  pub place_is : (k : ℕ) → k ≤ length xs → NoneTo k → (k < length xs → get_or xs k 0 ≡ number) → k ≡ place_of xs number
+  place_is : (k : ℕ) → k ≤ length xs → NoneTo k → (k < length xs → get_or xs k 0 ≡ number) → k ≡ place_of xs number
   place_is k h N p =
       first-unique (λ i. eqb (get_or xs i 0) number) 0 (length xs) k (place_of xs number) (record {
         from-a = omega arith;
@@ -86,6 +81,14 @@ module _ (xs : List ℕ) (number : ℕ) where
         passes = λ l. rw (p (omega arith)) (eqb_refl number);
         none_before = λ i l b t. N i b (eqb→eq (get_or xs i 0) number t);
       }) (first-is (λ i. eqb (get_or xs i 0) number) 0 (length xs))
+
+  -- what a search for it finds
+  pub place-found-by : (r : Option ℕ) →
+      MatchOption r (AllWithin (λ x. ¬ (x ≡ number)) xs 0 (length xs))
+      (λ i. (i < length xs) × HoldsAt (λ x. x ≡ number) xs i × AllWithin (λ x. ¬ (x ≡ number)) xs 0 i) →
+      unwrap_or r (length xs) ≡ place_of xs number
+  place-found-by None none = place_is (length xs) (omega arith) (λ i h. none i 0 (omega arith) h) (λ h. absurd (omega arith))
+  place-found-by (Some k) found = place_is k (omega (arith, found.0)) (λ i h. found.2 i 0 (omega arith) h) (λ h. found.1 0)
 
   -- a number that is held stands there
   pub place_found : holds number xs ≡ true → (place_of xs number < length xs) × (get_or xs (place_of xs number) 0 ≡ number)

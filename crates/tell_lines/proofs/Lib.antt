@@ -2,6 +2,7 @@ pub mod Sifted
 pub mod Rows
 pub mod Least
 pub mod CellNumbers
+pub mod Cells
 pub mod CellLoop
 pub mod Evidence
 pub mod Whole

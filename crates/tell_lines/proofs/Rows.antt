@@ -1,11 +1,12 @@
--- Numbers put into the front of a row one by one.
-use Rattle.exact.proofs.Ground.{List, ◌∷◌, ◌≡◌, ◌∙◌, refl, ℕ, ◌≤◌, ◌<◌, ◌+◌, add-one, arith, length, get_or, take, replicate, set, length-replicate}
-use Rattle.exact.specs.Lists.{filled_to}
-use Rattle.exact.proofs.Rooms.{copied, copy-next, copy-all, into-blank, filled-front}
+-- Numbers taken one by one: what one turn more adds.
+use Rattle.exact.proofs.Ground.{List, [], ◌∷◌, map, ◌++◌, ◌≡◌, ◌∙◌, ap, ℕ, ◌≤◌, ◌<◌, ◌+◌, arith, length, get_or, take, replicate, set}
+use Rattle.exact.proofs.Ground.{length-replicate}
+use Rattle.exact.proofs.Rooms.{map-++, copied, copy-next, copy-all, into-blank, filled-front}
+use Rattle.std.proofs.lemmas.List.{take_more}
 
--- what stands behind the head of a list
-pub behind-head : (x : ℕ) (xs : List ℕ) (k : ℕ) → get_or (x ∷ xs) (k + 1) 0 ≡ get_or xs k 0
-behind-head x xs k = rw (add-one k) refl
+pub mapped_next : {A B : Type 0} (g : A → B) (xs : List A) (k : ℕ) (d : A) → k < length xs →
+    map g (take (k + 1) xs) ≡ map g (take k xs) ++ g (get_or xs k d) ∷ []
+mapped_next g xs k d h = ap (map g) (take_more xs k d h) ∙ map-++ g (take k xs) (get_or xs k d ∷ [])
 
 module _ (xs : List ℕ) (n : ℕ) where
   -- a row of n places that holds the first k
@@ -15,8 +16,5 @@ module _ (xs : List ℕ) (n : ℕ) where
   pub begun-next : (k v : ℕ) {row : List ℕ} → k < length xs → length xs ≤ n → Begun k row → v ≡ get_or xs k 0 → Begun (k + 1) (set row k v)
   begun-next k v h l e d = rw (e, d) (copy-next xs (replicate n 0) k 0 h (rw (length-replicate {A = ℕ} n 0) (omega arith)))
 
-  pub begun_all : (k : ℕ) {row : List ℕ} → k ≡ length xs → Begun k row → row ≡ filled_to n 0 xs
-  begun_all k h e = e ∙ copy-all xs (replicate n 0) k h ∙ into-blank xs n 0
-
-  pub row-front : (k : ℕ) {row : List ℕ} → k ≡ length xs → row ≡ filled_to n 0 xs → take k row ≡ xs
-  row-front k h e = rw (h, e) (filled-front n 0 xs)
+  pub begun-front : (k : ℕ) {row : List ℕ} → k ≡ length xs → Begun k row → take (length xs) row ≡ xs
+  begun-front k h e = ap (take (length xs)) (e ∙ copy-all xs (replicate n 0) k h ∙ into-blank xs n 0) ∙ filled-front n 0 xs

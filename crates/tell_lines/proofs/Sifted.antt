@@ -1,10 +1,9 @@
 -- Lines for the numbers that pass a test, put into a room one after the other; and how many numbers pass.
 use Rattle.exact.proofs.Ground.{true, false, Bool, cond, ◌&&◌, ◌||◌, List, [], ◌∷◌, ◌++◌, append-nil, ◌≡◌, ◌∙◌, sym, ap, refl, ℕ, ◌≤◌, ◌<◌, ◌-◌, ◌+◌}
-use Rattle.exact.proofs.Ground.{◌*◌, suc, zero, zero-add, add-one, suc-mul, arith, eqb, T, length, set, length-append, eqb-true}
-use Rattle.exact.specs.Lists.{from, keep, each, holds, first, filled_to}
-use Rattle.exact.proofs.Lists.{keep-++, keep-most}
-use Rattle.exact.proofs.Rooms.{filled_next}
-use Rattle.exact.proofs.Numbers.{from-add, from-snoc, length_from}
+use Rattle.exact.proofs.Ground.{◌*◌, suc, zero, zero-add, add-one, suc-mul, arith, eqb, T, length, eqb-true}
+use Rattle.exact.specs.Lists.{from, keep, each, holds, first}
+use Rattle.exact.proofs.Lists.{keep-++}
+use Rattle.exact.proofs.Numbers.{from-add, from-snoc}
 use Rattle.exact.proofs.Searches.{first-is}
 use Rattle.exact.proofs.Tests.{is_true, is_false}
 use Rattle.text.specs.Bytes.{Put}
@@ -75,26 +74,6 @@ kept-own y a (suc n) = go (eqb a y) refl (kept-own y (suc a) n)
 pub kept-few : (xs : List ℕ) (n : ℕ) → length (keep (λ k. holds k xs) (from 0 n)) ≤ length xs
 kept-few [] n = rw (none_kept (λ k. false) 0 n (λ k l h t. t)) (omega arith)
 kept-few (y ∷ ys) n = omega (arith, kept_either (λ k. eqb k y) (λ k. holds k ys) (from 0 n), kept-own y 0 n, kept-few ys n)
-
--- ---- a row of them
-
-module _ (test : ℕ → Bool) (most : ℕ) where
-  -- those below n stand in front of a row, `many` of them
-  pub record Sifted (n : ℕ) (row : List ℕ) (many : ℕ) : Type 0 where
-    pub are : row ≡ filled_to most 0 (keep test (from 0 n))
-    pub count : many ≡ length (keep test (from 0 n))
-
-  pub sifted-few : (n : ℕ) {row : List ℕ} {many : ℕ} → Sifted n row many → many ≤ n
-  sifted-few n S = omega (arith, S.count, keep-most test (from 0 n), length_from 0 n)
-
-  pub sifted-next : (n : ℕ) {row : List ℕ} {many : ℕ} → n < most → Sifted n row many → test n ≡ true → Sifted (n + 1) (set row many n) (many + 1)
-  sifted-next n h S e = record {
-    are = rw (kept_next test n e, S.are, S.count) (filled_next most 0 (keep test (from 0 n)) n (omega (arith, S.count, sifted-few n S)));
-    count = rw (kept_next test n e, length-append (keep test (from 0 n)) (n ∷ [])) (omega (arith, S.count));
-  }
-
-  pub sifted-passed : (n : ℕ) {row : List ℕ} {many : ℕ} → Sifted n row many → test n ≡ false → Sifted (n + 1) row many
-  sifted-passed n S e = record { are = rw (kept-passed test n e) S.are; count = rw (kept-passed test n e) S.count }
 
 -- ---- their lines
 

@@ -8,14 +8,20 @@ use Rattle.counts.specs.Numbered.{product_of, number_of}
 use Rattle.text.specs.Bytes.{bytes}
 use Rattle.lines.specs.Lines.{line_of}
 use Rattle.tell.specs.declared.Joins.{Joins}
+use Rattle.tell.specs.declared.Told.{Told}
 use Rattle.tell.specs.Given.{Asked}
-use Rattle.tell.specs.Evidence.{group_of, tells, most_groups, evidence}
+use Rattle.tell.specs.Evidence.{group_of, most_groups}
+use Rattle.tell.specs.Answer.{told}
 use Rattle.tell.specs.Words.{words_figure}
 use Rattle.tell.specs.Tell.{cell}
 
 -- no answer is longer
 abbrev pub most_bytes : ℕ
 most_bytes = 144_000
+
+-- no line has more numbers: one, and one for each column
+abbrev pub most_fields : ℕ
+most_fields = 25
 
 -- ---- levels, of what the runs have in column a, and of the groups
 
@@ -96,9 +102,8 @@ module _ (p : Plan) (rs : List ℕ) (a : ℕ) (J gs : List ℕ) where
 -- ---- the answer
 
 -- a question that is not refused, and what the routines of `tell` answer to it
-pub record Answered (p : Plan) (rs : List ℕ) (a : ℕ) (J : List ℕ) (told : Bool) (joins : Joins) (words : Fraction) : Type 0 where
+pub record Answered (p : Plan) (rs : List ℕ) (a : ℕ) (J : List ℕ) (t : Told) (words : Fraction) : Type 0 where
   pub asked : Asked p rs a J
   pub shown : Shown p J
-  pub is-told : told ≡ tells (entry p) a J most_groups rs
-  pub are-joins : joins ≡ evidence p rs a J
+  pub is-told : t ≡ told p rs a J
   pub are_words : words ≡ words_figure (level p) (entry p) rs a J

@@ -1,11 +1,12 @@
 // For our own crates: the lines of an answer, put into a room one after the other. Each answers the place behind its bytes.
-ghost use Rattle.std.specs.Prelude.{◌≡◌, true, cond, [], ◌∷◌, ◌+◌, ◌-◌, ◌*◌, ◌≤◌, ◌<◌, eqb, length};
-ghost use Rattle.exact.specs.Lists.{filled_to, first, holds};
-ghost use Rattle.rules.specs.Plan.{plan, entry, most_runs, most_columns};
-ghost use Rattle.rules.specs.Refusals.{refusal, or_else};
+ghost use Rattle.std.specs.Prelude.{◌≡◌, true, cond, [], ◌∷◌, ◌+◌, ◌-◌, ◌*◌, ◌≤◌, ◌<◌, length};
+ghost use Rattle.exact.specs.Lists.{first, holds};
+ghost use Rattle.rules.specs.Plan.{plan, entry, most_columns};
+ghost use Rattle.rules.specs.Refusals.{refusal, answered, refusal_in};
 ghost use Rattle.plan.specs.Good.{Sound};
 ghost use Rattle.text.specs.Bytes.{Put, bytes};
 ghost use Rattle.lines.specs.Lines.{line_of};
+ghost use Rattle.lines.specs.Given.{most_of_line};
 ghost use Rattle.tell.specs.Tell.{cell};
 ghost use Rattle.tell.specs.Given.{Asked};
 ghost use Rattle.tell.specs.Evidence.{most_groups};
@@ -13,6 +14,7 @@ ghost use Rattle.tell.specs.Answer.{tell_checks};
 ghost use Rattle.tell_lines.specs.TellLines.{tell_lines, lines_beside};
 ghost use Rattle.tell_lines.specs.Parts.{
   most_bytes,
+  most_fields,
   column_of,
   absent_lines_of,
   members_of,
@@ -32,14 +34,21 @@ ghost use Rattle.tell_lines.specs.Parts.{
 };
 
 use exact::fractions::Fraction;
+use exact::listed::Numbers;
 use lines::{Written, write_line, write_refused};
-use rules::Refusal;
+use rules::sizes::{MOST_COLUMNS, MOST_RUNS};
 use sets::routines::holds;
-use tell::Joins;
 use tell::routines::{tell_answer, words_figure};
+use tell::{Joins, Told};
 
 // No columns have more cells.
 const MOST_CELLS: usize = 2_000_000_000;
+
+// A place for each of the most levels that a column has.
+const MOST_GROUPS: usize = 16;
+
+// No line has more numbers: one, and one for each column.
+const MOST_FIELDS: usize = 25;
 
 // ---- what the lines show
 
@@ -52,96 +61,93 @@ fn entry_at(levels: &[u8], table: &[u8], run: usize, column: usize) -> usize
     table[place] as usize
 }
 
-fn wide(byte: u8) -> usize
-    ensures { result ≡ byte }
+// What the runs have in a column.
+fn column_of(levels: &[u8], table: &[u8], runs: &[usize], column: usize) -> Numbers<MOST_RUNS>
+    requires { Asked (plan levels.now table.now) runs.now column [] }
+    ensures { result ≡ column_of (plan levels.now table.now) runs.now column }
 {
-    byte as usize
+    let mut entries = Numbers::new();
+    for run in runs {
+        entries.push(entry_at(levels, table, *run, column));
+    }
+    entries
 }
 
-// What the runs have in a column, and zero in each place left over.
-fn column_of(levels: &[u8], table: &[u8], runs: &[usize], column: usize) -> [usize; 256]
-    requires { Asked (plan levels.now table.now) runs.now column [] }
-    ensures { result ≡ filled_to most_runs 0 (column_of (plan levels.now table.now) runs.now column) }
+// The cell of a run: what it has in the columns.
+fn cell_of(levels: &[u8], table: &[u8], run: usize, others: &[usize]) -> Numbers<MOST_COLUMNS>
+    requires { let p = plan levels.now table.now in Sound p (run ∷ []) × Shown p others.now }
+    ensures { result ≡ cell (entry (plan levels.now table.now)) others.now run }
 {
-    let mut entries = [0usize; 256];
-    for k in 0..runs.len() {
-        entries[k] = entry_at(levels, table, runs[k], column);
+    let mut entries = Numbers::new();
+    for column in others {
+        entries.push(entry_at(levels, table, run, *column));
     }
     entries
 }
 
 // The numbers of the cells that the runs are in, in dictionary order.
-fn numbers_of(levels: &[u8], table: &[u8], runs: &[usize], others: &[usize]) -> [usize; 256]
+fn numbers_of(levels: &[u8], table: &[u8], runs: &[usize], others: &[usize]) -> Numbers<MOST_RUNS>
     requires { let p = plan levels.now table.now in Sound p runs.now × Shown p others.now }
-    ensures { result ≡ filled_to most_runs 0 (numbers_of (plan levels.now table.now) runs.now others.now) }
+    ensures { result ≡ numbers_of (plan levels.now table.now) runs.now others.now }
 {
-    let mut numbers = [0usize; 256];
-    for k in 0..runs.len() {
-        numbers[k] = counts::routines::combination(levels, table, runs[k], others);
+    let mut numbers = Numbers::new();
+    for run in runs {
+        numbers.push(counts::routines::combination(levels, table, *run, others));
     }
     numbers
 }
 
-// A number, then others, and zero in each place left over.
-fn headed(head: usize, others: &[usize]) -> [u64; 25]
-    requires { length others.now ≤ most_columns }
-    ensures { result ≡ filled_to 25 0 (head ∷ others.now) }
-{
-    let mut fields = [0u64; 25];
-    fields[0] = head as u64;
-    for k in 0..others.len() {
-        fields[k + 1] = others[k] as u64;
-    }
-    fields
-}
-
-// A number, then the entries of a run in the columns, and zero in each place left over.
-fn cell_fields(levels: &[u8], table: &[u8], head: usize, run: usize, others: &[usize]) -> [u64; 25]
-    requires { let p = plan levels.now table.now in Sound p (run ∷ []) × Shown p others.now }
-    ensures { result ≡ filled_to 25 0 (head ∷ cell (entry (plan levels.now table.now)) others.now run) }
-{
-    let mut fields = [0u64; 25];
-    fields[0] = head as u64;
-    for k in 0..others.len() {
-        fields[k + 1] = entry_at(levels, table, run, others[k]) as u64;
-    }
-    fields
-}
-
-// The first `many` places hold levels, rising; the others zero.
-#[derive(Clone, Copy)]
-struct Members {
-    levels: [u64; 16],
-    many: usize,
-}
-
-// The levels below s that are in group k.
-fn members_of(groups: [u8; 16], s: usize, k: usize) -> Members
+// The levels below s that are in group k, rising.
+fn members_of(groups: &[u8; 16], s: usize, k: usize) -> Numbers<MOST_GROUPS>
     requires { s ≤ most_groups }
-    ensures levels { result.levels ≡ filled_to most_groups 0 (members_of groups s k) }
-    ensures many { result.many ≡ length (members_of groups s k) }
+    ensures { result ≡ members_of groups.now s k }
 {
-    let mut levels = [0u64; 16];
-    let mut many = 0;
-    for x in 0..s {
-        if wide(groups[x]) == k {
-            levels[many] = x as u64;
-            many += 1;
+    let mut members = Numbers::new();
+    for (x, group) in groups[..s].iter().enumerate() {
+        if usize::from(*group) == k {
+            members.push(x);
         }
     }
-    Members { levels, many }
+    members
 }
 
 // ---- the lines
+
+// A line of runs, columns or levels.
+fn write_numbers(name: &[u8], numbers: &[usize], room: &mut [u8], at: usize) -> usize
+    requires few { length numbers.now ≤ most_fields }
+    requires room { at + most_of_line name.now numbers.now ≤ length room.old }
+    ensures { let xs = numbers.now in
+        Put (line_of name.now xs) (most_of_line name.now xs) at room.old result room.new }
+{
+    let mut fields = [0u64; MOST_FIELDS];
+    for (k, number) in numbers.iter().enumerate() {
+        fields[k] = *number as u64;
+    }
+    write_line(name, &fields[..numbers.len()], room, at)
+}
+
+// A line of a number and others behind it.
+fn write_headed(name: &[u8], head: usize, others: &[usize], room: &mut [u8], at: usize) -> usize
+    requires few { length others.now ≤ most_columns }
+    requires room { at + most_of_line name.now (head ∷ others.now) ≤ length room.old }
+    ensures { let xs = head ∷ others.now in
+        Put (line_of name.now xs) (most_of_line name.now xs) at room.old result room.new }
+{
+    let mut numbers = Numbers::<MOST_FIELDS>::new();
+    numbers.push(head);
+    for other in others {
+        numbers.push(*other);
+    }
+    write_numbers(name, numbers.as_slice(), room, at)
+}
 
 // What was asked.
 fn write_asked(column: usize, others: &[usize], room: &mut [u8], at: usize) -> usize
     requires { (length others.now ≤ most_columns) × (at + 530 ≤ length room.old) }
     ensures { Put (line_of (bytes "tell") (column ∷ others.now)) 530 at room.old result room.new }
 {
-    let fields = headed(column, others);
-    let many = others.len() + 1;
-    write_line(b"tell", &fields[..many], room, at)
+    write_headed(b"tell", column, others, room, at)
 }
 
 // Yes or no.
@@ -171,24 +177,22 @@ fn write_absent(entries: &[usize], s: usize, room: &mut [u8], at: usize) -> usiz
 }
 
 // The line of the group named k.
-fn write_group(groups: [u8; 16], s: usize, k: usize, room: &mut [u8], at: usize) -> usize
+fn write_group(groups: &[u8; 16], s: usize, k: usize, room: &mut [u8], at: usize) -> usize
     requires { (s ≤ most_groups) × (at + 342 ≤ length room.old) }
-    ensures { Put (line_of (bytes "group") (members_of groups s k)) 342 at room.old result room.new }
+    ensures { Put (line_of (bytes "group") (members_of groups.now s k)) 342 at room.old result room.new }
 {
-    let found = members_of(groups, s, k);
-    let levels = found.levels;
-    let many = found.many;
-    write_line(b"group", &levels[..many], room, at)
+    let members = members_of(groups, s, k);
+    write_numbers(b"group", members.as_slice(), room, at)
 }
 
 // A line for each group whose lowest level is among the entries.
-fn write_groups(groups: [u8; 16], entries: &[usize], s: usize, room: &mut [u8], at: usize) -> usize
+fn write_groups(groups: &[u8; 16], entries: &[usize], s: usize, room: &mut [u8], at: usize) -> usize
     requires { (s ≤ most_groups) × (at + s * 342 ≤ length room.old) }
-    ensures { Put (group_lines_of groups entries.now s) (s * 342) at room.old result room.new }
+    ensures { Put (group_lines_of groups.now entries.now s) (s * 342) at room.old result room.new }
 {
     let mut end = at;
-    for x in 0..s {
-        if wide(groups[x]) == x && holds(entries, x) {
+    for (x, group) in groups[..s].iter().enumerate() {
+        if usize::from(*group) == x && holds(entries, x) {
             end = write_group(groups, s, x, room, end);
         }
     }
@@ -207,15 +211,12 @@ fn write_pairs(
     requires { Linked (plan levels.now table.now) column joins × (at + joins.many * 89 ≤ length room.old) }
     ensures { Put (pair_lines_of (plan levels.now table.now) column joins) (joins.many * 89) at room.old result room.new }
 {
-    let left = joins.left;
-    let right = joins.right;
     let mut end = at;
-    for k in 0..joins.many {
-        let f = left[k];
-        let g = right[k];
-        let x = entry_at(levels, table, f, column);
+    for (k, f) in joins.left[..joins.many].iter().enumerate() {
+        let g = joins.right[k];
+        let x = entry_at(levels, table, *f, column);
         let y = entry_at(levels, table, g, column);
-        let numbers = [f as u64, g as u64, x as u64, y as u64];
+        let numbers = [*f as u64, g as u64, x as u64, y as u64];
         end = write_line(b"pair", &numbers, room, end);
     }
     end
@@ -234,9 +235,8 @@ fn write_cell(
     requires { let p = plan levels.now table.now in Sound p (run ∷ []) × (Shown p others.now × (at + 530 ≤ length room.old)) }
     ensures { Put (cell_line_of (plan levels.now table.now) others.now group run) 530 at room.old result room.new }
 {
-    let fields = cell_fields(levels, table, group, run, others);
-    let many = others.len() + 1;
-    write_line(b"cell", &fields[..many], room, at)
+    let cell = cell_of(levels, table, run, others);
+    write_headed(b"cell", group, cell.as_slice(), room, at)
 }
 
 // ---- the cells in dictionary order
@@ -247,10 +247,9 @@ fn next_number(numbers: &[usize], low: usize, end: usize) -> usize
     ensures { result ≡ first (λ k. holds k numbers.now) low (end - low) }
 {
     let mut next = end;
-    for k in 0..numbers.len() {
-        let number = numbers[k];
-        if low <= number && number < next {
-            next = number;
+    for number in numbers {
+        if low <= *number && *number < next {
+            next = *number;
         }
     }
     next
@@ -260,12 +259,10 @@ fn next_number(numbers: &[usize], low: usize, end: usize) -> usize
 fn place_of(numbers: &[usize], number: usize) -> usize
     ensures { result ≡ place_of numbers.now number }
 {
-    for k in 0..numbers.len() {
-        if numbers[k] == number {
-            return k;
-        }
-    }
-    numbers.len()
+    numbers
+        .iter()
+        .position(|x| *x == number)
+        .unwrap_or(numbers.len())
 }
 
 // The line of the cell with this number.
@@ -275,7 +272,7 @@ fn write_numbered(
     runs: &[usize],
     column: usize,
     others: &[usize],
-    groups: [u8; 16],
+    groups: &[u8; 16],
     numbers: &[usize],
     number: usize,
     room: &mut [u8],
@@ -284,11 +281,12 @@ fn write_numbered(
     requires numbered { Numbered (plan levels.now table.now) runs.now column others.now numbers.now }
     requires numbers_value { (holds number numbers.now ≡ true) × (at + 530 ≤ length room.old) }
     ensures { let p = plan levels.now table.now in
-        Put (cell_line_at p runs.now column others.now groups number) 530 at room.old result room.new }
+        Put (cell_line_at p runs.now column others.now groups.now number) 530 at room.old result room.new }
 {
     let run = runs[place_of(numbers, number)];
     let level = entry_at(levels, table, run, column);
-    write_cell(levels, table, wide(groups[level]), run, others, room, at)
+    let group = usize::from(groups[level]);
+    write_cell(levels, table, group, run, others, room, at)
 }
 
 // A line for each number that occurs below `end`, in their order.
@@ -298,7 +296,7 @@ fn write_cells(
     runs: &[usize],
     column: usize,
     others: &[usize],
-    groups: [u8; 16],
+    groups: &[u8; 16],
     numbers: &[usize],
     end: usize,
     room: &mut [u8],
@@ -308,7 +306,7 @@ fn write_cells(
     requires runs_in_bounds { at + length runs.now * 530 ≤ length room.old }
     ensures { let p = plan levels.now table.now in
         let rs = runs.now in
-        Put (cell_lines_to p rs column others.now groups end) (length rs * 530) at room.old result room.new }
+        Put (cell_lines_to p rs column others.now groups.now end) (length rs * 530) at room.old result room.new }
 {
     let mut after = at;
     let mut number = next_number(numbers, 0, end);
@@ -327,19 +325,18 @@ fn write_levels(
     table: &[u8],
     runs: &[usize],
     column: usize,
-    groups: [u8; 16],
+    groups: &[u8; 16],
     room: &mut [u8],
     at: usize,
 ) -> usize
     requires { Asked (plan levels.now table.now) runs.now column [] × (at + 5920 ≤ length room.old) }
     ensures { let p = plan levels.now table.now in
-        Put (level_lines_of p runs.now column groups) 5920 at room.old result room.new }
+        Put (level_lines_of p runs.now column groups.now) 5920 at room.old result room.new }
 {
-    let row = column_of(levels, table, runs, column);
-    let n = runs.len();
-    let s = wide(levels[column]);
-    let absent = write_absent(&row[..n], s, room, at);
-    write_groups(groups, &row[..n], s, room, absent)
+    let entries = column_of(levels, table, runs, column);
+    let s = usize::from(levels[column]);
+    let absent = write_absent(entries.as_slice(), s, room, at);
+    write_groups(groups, entries.as_slice(), s, room, absent)
 }
 
 // The lines of the cells, where the answer is no.
@@ -350,7 +347,7 @@ fn write_split(
     runs: &[usize],
     column: usize,
     others: &[usize],
-    groups: [u8; 16],
+    groups: &[u8; 16],
     room: &mut [u8],
     at: usize,
 ) -> usize
@@ -358,13 +355,12 @@ fn write_split(
     requires runs_in_bounds { at + length runs.now * 530 ≤ length room.old }
     ensures { let p = plan levels.now table.now in
         let rs = runs.now in
-        Put (split_lines_of p rs column others.now groups tells) (length rs * 530) at room.old result room.new }
+        Put (split_lines_of p rs column others.now groups.now tells) (length rs * 530) at room.old result room.new }
 {
     if tells {
         return at;
     }
-    let row = numbers_of(levels, table, runs, others);
-    let n = runs.len();
+    let numbers = numbers_of(levels, table, runs, others);
     let end = counts::routines::product_of(levels, others, MOST_CELLS);
     write_cells(
         levels,
@@ -373,7 +369,7 @@ fn write_split(
         column,
         others,
         groups,
-        &row[..n],
+        numbers.as_slice(),
         end,
         room,
         at,
@@ -387,21 +383,22 @@ fn write_answer(
     runs: &[usize],
     column: usize,
     others: &[usize],
-    tells: bool,
-    joins: Joins,
+    told: Told,
     words: Fraction,
     room: &mut [u8],
 ) -> usize
-    requires fact { let p = plan levels.now table.now in Answered p runs.now column others.now tells joins words }
+    requires fact { let p = plan levels.now table.now in Answered p runs.now column others.now told words }
     requires most_bytes_in_bounds { most_bytes ≤ length room.old }
     ensures { let p = plan levels.now table.now in
         Put (tell_lines p runs.now column others.now) most_bytes 0 room.old result room.new }
 {
-    let groups = joins.groups;
+    let tells = told.tells;
+    let joins = told.joins;
+    let groups = &joins.groups;
     let figure = [words.num, words.den];
     let asked = write_asked(column, others, room, 0);
-    let told = write_told(tells, room, asked);
-    let worded = write_line(b"words", &figure, room, told);
+    let answered = write_told(tells, room, asked);
+    let worded = write_line(b"words", &figure, room, answered);
     let grouped = write_levels(levels, table, runs, column, groups, room, worded);
     let paired = write_pairs(levels, table, column, joins, room, grouped);
     write_split(
@@ -409,9 +406,8 @@ fn write_answer(
     )
 }
 
-// The lines of the answer for some runs of a plan, or the one line of the refusal, behind the refusal that the call begins with.
+// The lines of the answer for some runs of a plan, or the one line of the refusal.
 pub fn write_tell(
-    refused: Refusal,
     levels: &[u8],
     table: &[u8],
     runs: &[usize],
@@ -419,32 +415,20 @@ pub fn write_tell(
     others: &[usize],
     room: &mut [u8],
 ) -> Written
-    requires sound { refused.number ≡ 0 → Sound (plan levels.now table.now) runs.now × (1 ≤ length runs.now) }
+    requires sound { Sound (plan levels.now table.now) runs.now × (1 ≤ length runs.now) }
     requires most_bytes_in_bounds { most_bytes ≤ length room.old }
-    ensures refused { result.refused ≡ or_else refused (refusal (tell_checks (plan levels.now table.now) column others.now)) }
+    ensures answer { result.answer ≡ answered (refusal (tell_checks (plan levels.now table.now) column others.now)) tt }
     ensures bytes { let p = plan levels.now table.now in
-        Put (lines_beside p runs.now column others.now result.refused) most_bytes 0 room.old result.bytes room.new }
+        Put (lines_beside p runs.now column others.now (refusal_in result.answer)) most_bytes 0 room.old result.bytes room.new }
 {
-    let answer = tell_answer(refused, levels, table, runs, column, others);
-    let stopped = answer.refused;
-    if stopped.number != 0 {
-        return write_refused(stopped, room);
-    }
+    let told = match tell_answer(levels, table, runs, column, others) {
+        Ok(told) => told,
+        Err(refused) => return write_refused(refused, room),
+    };
     let words = words_figure(levels, table, runs, column, others);
-    let joins = answer.joins;
-    let bytes = write_answer(
-        levels,
-        table,
-        runs,
-        column,
-        others,
-        answer.tells,
-        joins,
-        words,
-        room,
-    );
+    let bytes = write_answer(levels, table, runs, column, others, told, words, room);
     Written {
-        refused: stopped,
         bytes,
+        answer: Ok(()),
     }
 }

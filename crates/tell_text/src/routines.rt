@@ -1,5 +1,6 @@
 // For our own crates: the lines, put into a room that holds every answer.
 ghost use Rattle.std.specs.Prelude.{◌≡◌, ◌≤◌, length};
+ghost use Rattle.rules.specs.Refusals.{answered, refusal_in};
 ghost use Rattle.held.specs.Held.{IsHeld};
 ghost use Rattle.text.specs.Bytes.{Put};
 ghost use Rattle.tell_lines.specs.Parts.{most_bytes};
@@ -12,24 +13,21 @@ use standing_text::routines::read_left;
 use tell_lines::routines::write_tell;
 
 // The standing runs of a held plan: refusals 10 and 8.
-pub fn write_held(held: Held, column: usize, others: &[usize], room: &mut [u8]) -> Written
-    requires held { IsHeld held }
+pub fn write_held(held: &Held, column: usize, others: &[usize], room: &mut [u8]) -> Written
+    requires held { IsHeld held.now }
     requires most_bytes_in_bounds { most_bytes ≤ length room.old }
-    ensures refused { result.refused ≡ held_refusal column others.now held }
-    ensures bytes { Put (held_lines column others.now held result.refused) most_bytes 0 room.old result.bytes room.new }
+    ensures answer { result.answer ≡ answered (held_refusal column others.now held.now) tt }
+    ensures bytes { let J = others.now in
+        Put (held_lines column J held.now (refusal_in result.answer)) most_bytes 0 room.old result.bytes room.new }
 {
-    let columns = held.columns;
-    let size = held.runs * columns;
-    let levels = held.levels;
-    let entries = held.entries;
-    let standing = standing_runs(held);
-    let runs = standing.runs;
-    let count = standing.count;
+    let runs = match standing_runs(held) {
+        Ok(runs) => runs,
+        Err(refused) => return write_refused(refused, room),
+    };
     write_tell(
-        standing.refused,
-        &levels[..columns],
-        &entries[..size],
-        &runs[..count],
+        held.levels(),
+        held.table(),
+        runs.as_slice(),
         column,
         others,
         room,
@@ -45,13 +43,12 @@ pub fn write_text(
     room: &mut [u8],
 ) -> Written
     requires { most_bytes ≤ length room.old }
-    ensures refused { result.refused ≡ tell_refusal text.now lost.now column others.now }
+    ensures answer { result.answer ≡ answered (tell_refusal text.now lost.now column others.now) tt }
     ensures bytes { Put (tell_text text.now lost.now column others.now) most_bytes 0 room.old result.bytes room.new }
 {
     let left = read_left(text, lost);
-    let refused = left.refused;
-    if refused.number != 0 {
-        return write_refused(refused, room);
+    match left.answer {
+        Ok(()) => write_held(&left.held, column, others, room),
+        Err(refused) => write_refused(refused, room),
     }
-    write_held(left.held, column, others, room)
 }

@@ -28,16 +28,15 @@ fn main(rt: HostRuntime) {
     }
     let size = read.size;
     let mut lines = [0u8; MOST_BYTES];
-    let answer: Written = write_text(
+    let written: Written = write_text(
         &text[..size],
         &lost[..losses],
         column,
         &others[..many],
         &mut lines,
     );
-    let bytes = answer.bytes;
-    let refused = answer.refused;
-    if refused.number != 0 {
+    let bytes = written.bytes;
+    if let Err(refused) = written.answer {
         console::refuse(
             &mut output,
             &mut errors,

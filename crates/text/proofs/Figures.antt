@@ -1,11 +1,11 @@
 -- Worked figures of the grammar: what the reader answers for some texts, by computation.
 use Rattle.exact.proofs.Ground.{List, [], ◌∷◌, map, ◌++◌, ◌≡◌, refl, ℕ, replicate}
 use Rattle.rules.specs.Plan.{Plan, plan}
-use Rattle.rules.specs.Refusals.{accepted, plain, placed, first_bad_level, first_bad_entry}
+use Rattle.rules.specs.Refusals.{answered, accepted, plain, placed, first_bad_level, first_bad_entry}
 use Rattle.text.specs.Bytes.{bytes, lines}
 use Rattle.text.specs.Decimal.{decimal}
 use Rattle.text.specs.Text.{malformed_line, plan_of, write_line}
-use Rattle.text.specs.Reader.{read_refusal, answered, read_answer, filled}
+use Rattle.text.specs.Reader.{read_refusal, read_answer, sizes, filled}
 
 -- document 01's four lines
 abbrev example : List ℕ
@@ -22,7 +22,7 @@ pub example-read : plan_of example ≡ example_plan
 unfolding plan_of
 example-read = refl
 
-pub example-answer : read_answer example (9 ∷ 9 ∷ []) room ≡ answered accepted example_plan
+pub example-answer : read_answer example (9 ∷ 9 ∷ []) room ≡ answered accepted (sizes example_plan)
 unfolding read_refusal malformed_line plan_of first_bad_level first_bad_entry
 example-answer = refl
 
@@ -60,6 +60,6 @@ pub in_order :
     ∷ lines ("2,3" ∷ "0,3" ∷ [])
     ∷ example
     ∷ [])
-    ≡ map (λ r. answered r example_plan) (plain 13 ∷ placed 14 2 0 ∷ plain 1 ∷ placed 14 2 0 ∷ placed 2 1 0 ∷ placed 5 0 1 ∷ plain 7 ∷ [])
+    ≡ map (λ r. answered r (sizes example_plan)) (plain 13 ∷ placed 14 2 0 ∷ plain 1 ∷ placed 14 2 0 ∷ placed 2 1 0 ∷ placed 5 0 1 ∷ plain 7 ∷ [])
 unfolding read_refusal malformed_line write_line decimal plan_of first_bad_level first_bad_entry
 in_order = refl

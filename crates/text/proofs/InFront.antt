@@ -1,17 +1,18 @@
 -- An accepted text, read to rooms that hold every accepted plan: its plan is good, and stands in front of them.
 use Rattle.exact.proofs.Ground.{List, ◌≡◌, ◌∙◌, sym, ap, refl, ℕ, ◌≤◌, ◌*◌, ℕ_discrete, dec_le, arith, length, take, drop, take_at}
 use native.Mathlib.Nat.{mul_comm}
+use Rattle.std.specs.Prelude.{Ok}
 use Rattle.exact.specs.Lists.{into}
 use Rattle.exact.proofs.Numbers.{mul-below}
 use Rattle.rules.specs.declared.Refusal.{Refusal}
 use Rattle.rules.specs.Plan.{Plan, columns, runs, most_columns, most_runs, longest_text, most_entries}
-use Rattle.rules.specs.Refusals.{refusal, plan_checks}
-use Rattle.rules.proofs.Ranges.{unless-accepted}
+use Rattle.rules.specs.Refusals.{refusal, answered, plan_checks}
+use Rattle.rules.proofs.Answered.{ok-accepted, ok-is}
 use Rattle.plan.specs.Good.{Good}
 use Rattle.plan.proofs.Checks.{passed-good}
-use Rattle.text.specs.declared.ReadAnswer.{ReadAnswer}
+use Rattle.text.specs.declared.Sizes.{Sizes}
 use Rattle.text.specs.Text.{malformed_line, plan_of}
-use Rattle.text.specs.Reader.{read_refusal, answered, filled}
+use Rattle.text.specs.Reader.{read_refusal, sizes}
 use Rattle.text.proofs.Answers.{refused-plan, long-text, malformed-text, formed-text}
 
 pub entries-few : (p : Plan) → Good p → length p.table ≤ most_entries
@@ -37,30 +38,28 @@ read-accepted text a b z =
     go (yes h) (yes d) (yes e) = record { short = h; formed = d; good = passed-good (plan_of text) refl e }
 
 -- an accepted plan stands in front of the rooms
-pub record InFront (p : Plan) (a : ReadAnswer) (after past : List ℕ) : Type 0 where
+pub record InFront (p : Plan) (a : Sizes) (after past : List ℕ) : Type 0 where
   pub good : Good p
   pub columns : a.columns ≡ columns p
   pub entries : a.columns * a.runs ≡ length p.table
   pub levels : take a.columns after ≡ p.levels
   pub table : take (a.columns * a.runs) past ≡ p.table
 
-pub in-front : (text : List ℕ) {a : ReadAnswer} → a ≡ answered (read_refusal text most_columns most_entries) (plan_of text) → a.refused.number ≡ 0 →
-    (levels table : List ℕ) {after past : List ℕ} → after ≡ filled a.refused (plan_of text).levels levels →
-    past ≡ filled a.refused (plan_of text).table table → InFront (plan_of text) a after past
-in-front text {a} e z levels table f g =
+pub in-front : (text : List ℕ) {a : Sizes} → Ok a ≡ answered (read_refusal text most_columns most_entries) (sizes (plan_of text)) →
+    (levels table : List ℕ) {after past : List ℕ} → after ≡ into (plan_of text).levels levels → past ≡ into (plan_of text).table table →
+    InFront (plan_of text) a after past
+in-front text {a} e levels table f g =
     let p = plan_of text in
     let r = read_refusal text most_columns most_entries in
-    let y : r.number ≡ 0 = sym (ap (λ x. x.refused.number) e) ∙ z in
-    let G = (read-accepted text most_columns most_entries y).good in
-    let m : a.columns ≡ columns p = ap (λ x. x.columns) e ∙ unless-accepted r 0 (columns p) y in
-    let n : a.runs ≡ runs p = ap (λ x. x.runs) e ∙ unless-accepted r 0 (runs p) y in
+    let G = (read-accepted text most_columns most_entries (ok-accepted r (sizes p) e)).good in
+    let q = ok-is r (sizes p) e in
+    let m : a.columns ≡ columns p = ap (λ x. x.columns) q in
+    let n : a.runs ≡ runs p = ap (λ x. x.runs) q in
     let s : a.columns * a.runs ≡ length p.table = rw (m, n) (mul_comm (columns p) (runs p) ∙ sym G.size) in
     record {
       good = G;
       columns = m;
       entries = s;
-      levels = ap (take a.columns) (f ∙ unless-accepted a.refused levels (into p.levels levels) z)
-          ∙ take_at p.levels (drop (columns p) levels) a.columns (sym m);
-      table = ap (take (a.columns * a.runs)) (g ∙ unless-accepted a.refused table (into p.table table) z)
-          ∙ take_at p.table (drop (length p.table) table) (a.columns * a.runs) (sym s);
+      levels = ap (take a.columns) f ∙ take_at p.levels (drop (columns p) levels) a.columns (sym m);
+      table = ap (take (a.columns * a.runs)) g ∙ take_at p.table (drop (length p.table) table) (a.columns * a.runs) (sym s);
     }

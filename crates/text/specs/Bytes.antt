@@ -1,7 +1,8 @@
 -- Quoted texts as bytes, and bytes put into a lent room.
-use Rattle.std.specs.Prelude.{◌≡◌, List, [], ◌∷◌, ◌++◌, ℕ, zero, suc, ◌+◌, ◌≤◌, length, take, drop}
+use Rattle.std.specs.Prelude.{◌≡◌, List, [], ◌∷◌, ◌++◌, ℕ, zero, suc, ◌+◌, ◌≤◌, length, take, drop, ℤ, pos, Result, Ok, Err}
 use Prim.Native.Char.{code}
 use Prim.Native.String.{String, len, char_at}
+use Rattle.rules.specs.declared.Refusal.{Refusal}
 
 -- n characters of the text, from place i on
 abbrev pub bytes_from : ℕ → ℕ → String → List ℕ
@@ -26,3 +27,8 @@ pub record Put (xs : List ℕ) (most at : ℕ) (room : List ℕ) (next : ℕ) (a
   pub short : length xs ≤ most
   pub behind : next ≡ at + length xs
   pub stored : after ≡ put_at at xs room
+
+-- a number of bytes or lines as one that could be below zero, which a C program gets; a refusal stays
+abbrev pub sized : Result ℕ Refusal → Result ℤ Refusal
+sized (Ok size) = Ok (pos size)
+sized (Err r) = Err r

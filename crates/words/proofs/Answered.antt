@@ -1,10 +1,10 @@
--- What the routines of a whole plan are lent, and the word of one length.
-use Rattle.exact.proofs.Ground.{List, [], ◌∷◌, ◌++◌, mem-head, mem-tail, mem-not_nil, ◌≡◌, ◌∙◌, ap, refl, ℕ, ◌≤◌, ◌-◌, ◌+◌, arith}
-use Rattle.exact.proofs.Ground.{pos, get_or, take, replicate, take_at, ltb-false}
-use Rattle.exact.specs.Lists.{from, product}
-use Rattle.exact.proofs.Numbers.{length_from, map-from-at}
+-- What the checks of levels and of a length tell where they pass, and the word of one length.
+use Rattle.exact.proofs.Ground.{List, [], ◌∷◌, mem-head, mem-tail, mem-not_nil, ◌≡◌, ◌∙◌, ap, refl, ℕ, ◌≤◌, ◌-◌, ◌+◌, arith}
+use Rattle.exact.proofs.Ground.{pos, get_or, ltb-false}
+use Rattle.exact.specs.Lists.{product}
+use Rattle.exact.proofs.Numbers.{map-from-at}
 use Rattle.rules.specs.declared.Refusal.{Refusal}
-use Rattle.rules.specs.Plan.{Plan, plan, columns, level, entry, every_column, most_columns, most_runs, highest_product}
+use Rattle.rules.specs.Plan.{Plan, plan, columns, level, entry, every_column, most_columns, highest_product}
 use Rattle.rules.specs.Refusals.{refusal, level_checks, bad_columns, bad_level, bad_product, bad_length}
 use Rattle.rules.proofs.Order.{passed_none}
 use Rattle.rules.proofs.Ranges.{inside}
@@ -12,12 +12,6 @@ use Rattle.plan.specs.Good.{Sound}
 use Rattle.plan.proofs.Checks.{columns-passed, levels-passed}
 use Rattle.pairs.specs.Words.{word}
 use Rattle.words.specs.Answers.{word_list}
-
--- ---- what the routines of a whole plan are lent
-
--- the front of the room that holds the numbers of n runs
-pub run-front : (n : ℕ) → take n (from 0 n ++ replicate (most_runs - n) 0) ≡ from 0 n
-run-front n = take_at (from 0 n) (replicate (most_runs - n) 0) n (length_from 0 n)
 
 -- levels that pass, with no runs
 pub levels_sound : (levels : List ℕ) {r : Refusal} → r ≡ refusal (level_checks (plan levels [])) → r.number ≡ 0 → Sound (plan levels []) []

@@ -7,6 +7,7 @@ pub mod Marked
 pub mod Totals
 pub mod OfPlan
 pub mod Once
+pub mod BothOrders
 pub mod RowsByPair
 pub mod Answered
 pub mod Figures

@@ -1,5 +1,5 @@
 -- Row sums filled pair by pair: the rows of the first k places of a list, over the first k runs. The pairs of a run with itself come at the end.
-use Rattle.exact.proofs.Ground.{List, [], ◌∷◌, map, ◌++◌, ◌≡◌, ◌∙◌, sym, ap, refl, ℕ, ◌<◌, ◌+◌, ◌^◌, zero-add, arith, ℤ, ◌+ℤ◌, ◌-ℤ◌, length, get_or, take}
+use Rattle.exact.proofs.Ground.{List, [], ◌∷◌, map, ◌++◌, ◌≡◌, ◌∙◌, sym, ap, refl, ℕ, ◌≤◌, ◌<◌, ◌+◌, ◌^◌, zero-add, arith, ℤ, ◌+ℤ◌, ◌-ℤ◌, length, get_or, take}
 use Rattle.exact.proofs.Ground.{drop, replicate, set, get_or-append, length-replicate, drop_at, take-length, take-append-drop, drop-cons, add-one}
 use Rattle.exact.specs.Lists.{from, sum}
 use Rattle.exact.proofs.Sums.{sum-at, sum-++}
@@ -56,7 +56,8 @@ module _ (p : Plan) where
   unfolding row_list others_list
   others-split rs k h =
       let f = get_or rs k 0 in let before = take k rs in let after = drop (k + 1) rs in
-      let whole : rs ≡ before ++ f ∷ after = sym (take-append-drop k rs) ∙ ap (λ qs. before ++ qs) (drop-cons rs k 0 h ∙ ap (λ n. f ∷ drop n rs) (sym (add-one k))) in
+      let whole : rs ≡ before ++ f ∷ after
+      = sym (take-append-drop k rs) ∙ ap (λ qs. before ++ qs) (drop-cons rs k 0 h ∙ ap (λ n. f ∷ drop n rs) (sym (add-one k))) in
       let all : (j : ℕ) → row rs f j ≡ own j +ℤ (row before f j +ℤ row after f j) = λ j.
       row-pairs (level p) (entry p) rs (every_column p) j f
       ∙ ap (λ qs. sum qs (of_pair p f j)) whole
@@ -120,6 +121,12 @@ module _ (p : Plan) (rs : List ℕ) where
   pub placed-all : placed (length rs) ≡ others_by_place p rs
   unfolding others_by_place
   placed-all = refl
+
+  pub length-others : length rs ≤ most_runs → length (others_by_place p rs) ≡ most_runs
+  length-others h =
+      ap length (sym placed-all)
+      ∙ length-begun (λ i. record { sums = others_list p rs (get_or rs i 0) }) blank (length rs) (omega (arith, length-replicate most_runs (row_at 0 0)))
+      ∙ length-replicate {A = Sums} most_runs (record { sums = zeros })
 
   paired_at : (k i : ℕ) → i < k → get_or (paired k) i past ≡ row_at k i
   paired_at k i h =

@@ -1,17 +1,17 @@
 // For our own crates: row sums over some runs of a plan, each named by its number, as the runs that stand are; and the words of all its runs.
 ghost use Rattle.std.specs.Prelude.{◌≡◌, [], ◌∷◌, ◌≤◌, ◌^◌};
 ghost use Rattle.rules.specs.Plan.{plan, every_run, most_runs};
-ghost use Rattle.rules.specs.Refusals.{refusal, bad_length};
+ghost use Rattle.rules.specs.Refusals.{refusal, answered, bad_length};
 ghost use Rattle.plan.specs.Good.{Good, Sound};
-ghost use Rattle.pairs.specs.Given.{Row, once_list};
+ghost use Rattle.pairs.specs.Given.{Row};
 ghost use Rattle.pairs.specs.Lists.{row_list};
-ghost use Rattle.cells.specs.Cells.{Strides};
+ghost use Rattle.cells.specs.Cells.{window, Strides};
 ghost use Rattle.tally.specs.Tally.{Lent};
 ghost use Rattle.row_tally.specs.Kept.{Kept};
 ghost use Rattle.words.specs.Given.{both_orders, others_by_place};
-ghost use Rattle.words.specs.Answers.{rows_by_run, row_sums_beside, word_list, words_beside};
+ghost use Rattle.words.specs.Answers.{rows_by_run, word_list};
 
-use crate::{RowSumsAnswer, Sums, WordsAnswer};
+use crate::Sums;
 use cells::strides::{places_of, strides_of};
 use exact::signed;
 use pairs::routines::{add_to, diagonal, pair};
@@ -38,16 +38,13 @@ fn others_by_pairs(levels: &[u8], table: &[u8], runs: &[usize]) -> [Sums; 256]
 {
     let m = levels.len();
     let mut rows = [Sums { sums: [0; 24] }; 256];
-    for k in 0..runs.len() {
-        let f = runs[k];
+    for (k, f) in runs.iter().enumerate() {
         let mut total = [0i64; 24];
-        for e in 0..k {
-            let sums = pair(levels, table, f, runs[e]);
+        for (e, g) in runs[..k].iter().enumerate() {
+            let sums = pair(levels, table, *f, *g);
             let longer = &sums[1..m + 1];
             add_to(&mut total, longer);
-            let mut earlier = rows[e];
-            add_to(&mut earlier.sums, longer);
-            rows[e] = earlier;
+            add_to(&mut rows[e].sums, longer);
         }
         rows[k] = Sums { sums: total };
     }
@@ -72,7 +69,7 @@ fn others_in(
     ensures { result ≡ others_by_place (plan levels.now table.now) runs.now }
 {
     let mut rows = [Sums { sums: [0; 24] }; 256];
-    for k in 0..runs.len() {
+    for (k, f) in runs.iter().enumerate() {
         let sums = row_in(
             counts,
             samples,
@@ -83,7 +80,7 @@ fn others_in(
             table,
             &runs[..k],
             &runs[k + 1..],
-            runs[k],
+            *f,
         );
         rows[k] = Sums { sums };
     }
@@ -132,11 +129,10 @@ pub fn rows(levels: &[u8], table: &[u8], runs: &[usize]) -> [Sums; 256]
     let others = rows_of_others(levels, table, runs);
     let own = diagonal(levels);
     let mut rows = [Sums { sums: [0; 24] }; 256];
-    for k in 0..runs.len() {
-        let f = runs[k];
-        let mut whole = others[k];
+    for (f, other) in runs.iter().zip(&others) {
+        let mut whole = *other;
         add_to(&mut whole.sums, &own);
-        rows[f] = whole;
+        rows[*f] = whole;
     }
     rows
 }
@@ -147,95 +143,42 @@ pub fn both_orders(total: &mut [i64; 24], own: &[i64], runs: usize)
     ensures { total.new ≡ both_orders runs own.now total.old }
 {
     let n = signed::of_size(runs);
-    for j in 0..24 {
-        let once = total[j];
+    for (j, sum) in total.iter_mut().enumerate() {
+        let once = *sum;
         let half = signed::add(once, signed::mul(n, own[j]));
-        total[j] = signed::add(half, once);
+        *sum = signed::add(half, once);
     }
 }
 
-// The words of an accepted plan, from the sums over each pair of different runs once.
-fn words_from(once: [i64; 24], levels: &[u8], table: &[u8]) -> [i64; 24]
-    requires { let p = plan levels.now table.now in Good p × (once ≡ once_list p (every_run p)) }
+// The words of an accepted plan, with N counters: each pair of different runs visited once and counted double, at the end the pairs of a run
+// with itself. With 168 counters, which are enough where no column has more than two levels, it takes less than 2,048 bytes of stack.
+pub(crate) fn words_with<const N: usize>(levels: &[u8], table: &[u8]) -> [i64; 24]
+    requires { Good (plan levels.now table.now) × (N ≤ window) }
     ensures { let p = plan levels.now table.now in result ≡ word_list p (every_run p) }
 {
     let n = table.len() / levels.len();
+    let mut total = tally::routines::once::<N>(levels, table);
     let own = diagonal(levels);
-    let mut total = once;
     both_orders(&mut total, &own, n);
     total
 }
 
-// The words of an accepted plan: each pair of different runs visited once and counted double, at the end the pairs of a run with itself.
+// The words of an accepted plan.
 // Kept out of its callers, which would hold its counters.
 #[inline(never)]
 pub fn words_of_plan(levels: &[u8], table: &[u8]) -> [i64; 24]
     requires { Good (plan levels.now table.now) }
     ensures { let p = plan levels.now table.now in result ≡ word_list p (every_run p) }
 {
-    words_from(tally::routines::once(levels, table), levels, table)
-}
-
-// The same in less than 2,048 bytes of stack.
-pub(crate) fn words_in_little_room(levels: &[u8], table: &[u8]) -> [i64; 24]
-    requires { Good (plan levels.now table.now) }
-    ensures { let p = plan levels.now table.now in result ≡ word_list p (every_run p) }
-{
-    words_from(
-        tally::routines::once_in_little_room(levels, table),
-        levels,
-        table,
-    )
-}
-
-// The words of all runs of a plan, behind its refusal.
-pub fn words_answer(refused: Refusal, levels: &[u8], table: &[u8]) -> WordsAnswer
-    requires { refused.number ≡ 0 → Good (plan levels.now table.now) }
-    ensures { let p = plan levels.now table.now in result ≡ words_beside p (every_run p) refused }
-{
-    if refused.number != 0 {
-        return WordsAnswer {
-            refused,
-            words: [0; 24],
-        };
-    }
-    WordsAnswer {
-        refused,
-        words: words_of_plan(levels, table),
-    }
-}
-
-// The answer for some runs of a plan, behind the refusal that the call begins with.
-pub fn row_sums_answer(
-    refused: Refusal,
-    levels: &[u8],
-    table: &[u8],
-    runs: &[usize],
-) -> RowSumsAnswer
-    requires { refused.number ≡ 0 → Sound (plan levels.now table.now) runs.now }
-    ensures { result ≡ row_sums_beside (plan levels.now table.now) runs.now refused }
-{
-    if refused.number != 0 {
-        return RowSumsAnswer {
-            refused,
-            rows: [Sums { sums: [0; 24] }; 256],
-        };
-    }
-    RowSumsAnswer {
-        refused,
-        rows: rows(levels, table, runs),
-    }
+    words_with::<1024>(levels, table)
 }
 
 // Refusal 8: a word length is outside 1 to m.
-pub fn check_length(m: usize, length: usize) -> Refusal
-    ensures { result ≡ refusal (bad_length m length ∷ []) }
+pub fn check_length(m: usize, length: usize) -> Result<(), Refusal>
+    ensures { result ≡ answered (refusal (bad_length m length ∷ [])) tt }
 {
-    if length < 1 {
-        return Refusal::plain(8);
+    if length < 1 || m < length {
+        return Err(Refusal::plain(8));
     }
-    if m < length {
-        return Refusal::plain(8);
-    }
-    Refusal::accepted()
+    Ok(())
 }

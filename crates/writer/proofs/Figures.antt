@@ -1,8 +1,8 @@
 -- Worked figures of the writer, by computation: document 01's four lines.
-use Rattle.exact.proofs.Ground.{[], ◌∷◌, map, ◌≡◌, refl, ℕ}
-use Rattle.rules.specs.declared.Refusal.{Refusal}
+use Rattle.exact.proofs.Ground.{[], ◌∷◌, map, ◌≡◌, refl}
+use Rattle.std.specs.Prelude.{Ok, Err}
 use Rattle.rules.specs.Plan.{Plan, plan, every_run}
-use Rattle.rules.specs.Refusals.{accepted, plain, placed, of_plan, first_bad_level, first_bad_entry}
+use Rattle.rules.specs.Refusals.{plain, placed, of_plan, first_bad_level, first_bad_entry}
 use Rattle.text.specs.Bytes.{lines}
 use Rattle.text.specs.Decimal.{decimal}
 use Rattle.text.specs.Text.{write_line}
@@ -30,7 +30,6 @@ pub writer-answers :
     ∷ plan (2 ∷ 17 ∷ []) []
     ∷ plan [] []
     ∷ [])
-    ≡ map (λ (x : Refusal × ℕ). record { refused = x.0; bytes = x.1 })
-    ((accepted, 16) ∷ (plain 7, 0) ∷ (placed 5 1 0, 0) ∷ (plain 4, 0) ∷ (placed 2 1 0, 0) ∷ (plain 1, 0) ∷ [])
+    ≡ Ok 16 ∷ Err (plain 7) ∷ Err (placed 5 1 0) ∷ Err (plain 4) ∷ Err (placed 2 1 0) ∷ Err (plain 1) ∷ []
 unfolding write_answer text_of write_line decimal first_bad_level first_bad_entry
 writer-answers = refl

@@ -67,7 +67,8 @@ module _ (p : Plan) (rs : List ℕ) where
       text-left l =
           let few = R.sound.few in
           let m = R.sound.columns-high in
-          omega (arith, P.behind, P.short, Q.behind, Q.short, put-kept P, put-kept Q, suc-mul k (columns p), mul-below (suc k) (columns p) 256 24 (omega arith) m)
+          let whole = mul-below (suc k) (columns p) 256 24 (omega arith) m in
+          omega (arith, P.behind, P.short, Q.behind, Q.short, put-kept P, put-kept Q, suc-mul k (columns p), whole)
 
       pub text-whole : k ≡ length rs → Put (text_of p rs) most_of_text 0 room end after
       text-whole e =

@@ -4,12 +4,12 @@ use Rattle.exact.proofs.Ground.{length-append, length-map, ne_eqb}
 use Rattle.exact.specs.Lists.{each}
 use Rattle.exact.proofs.Numbers.{mul-below}
 use Rattle.rules.specs.Plan.{Plan, plan, columns, every_run, longest_text}
-use Rattle.rules.specs.Refusals.{accepted}
+use Rattle.rules.specs.Refusals.{answered, accepted}
 use Rattle.plan.specs.Good.{Good}
 use Rattle.plan.proofs.Checks.{good-own}
 use Rattle.plan.proofs.Sound.{good-sound}
 use Rattle.text.specs.Decimal.{decimal}
-use Rattle.text.specs.Reader.{room_checks, plan_refusal, read_refusal, answered, read_answer}
+use Rattle.text.specs.Reader.{room_checks, plan_refusal, read_refusal, sizes, read_answer}
 use Rattle.text.specs.Text.{split, numbers, count, ended, first_malformed, width, malformed_line, plan_of, join, write_line, write_lines}
 use Rattle.text.proofs.Split.{All, split-there, join-split}
 use Rattle.text.proofs.Digits.{decimal-length}
@@ -147,7 +147,7 @@ module _ (p : Plan) (G : Good p) where
 
   -- with rooms that are large enough the reader gives the plan back
   pub good-text : (levels table : List ℕ) → columns p ≤ length levels → length p.table ≤ length table →
-      read_answer (write_text p) levels table ≡ answered accepted p
+      read_answer (write_text p) levels table ≡ answered accepted (sizes p)
   unfolding plan_refusal
   good-text levels table h k =
       let a = length levels in

@@ -1,11 +1,11 @@
 -- Request #101: the text of a plan and of some of its runs, what the writer answers, and what its parts are given.
-use Rattle.std.specs.Prelude.{List, [], ◌∷◌, ◌++◌, map, ℕ, ◌<◌, length, get_or}
+use Rattle.std.specs.Prelude.{List, [], ◌∷◌, ◌++◌, map, ℕ, ◌<◌, length, get_or, Result}
 use Rattle.exact.specs.Lists.{each}
 use Rattle.rules.specs.Plan.{Plan, plan, columns, entry, every_column, every_run}
-use Rattle.rules.specs.Refusals.{Check, refusal, unless, bad_room}
+use Rattle.rules.specs.declared.Refusal.{Refusal}
+use Rattle.rules.specs.Refusals.{Check, refusal, answered, bad_room}
 use Rattle.plan.specs.Good.{Sound}
 use Rattle.text.specs.Text.{write_line, write_lines}
-use Rattle.writer.specs.declared.WriteAnswer.{WriteAnswer}
 
 -- ---- the text
 
@@ -31,10 +31,9 @@ plan_of_runs p rs = plan p.levels (each rs (row p))
 abbrev pub bad_text_room : Plan → List ℕ → ℕ → Check
 bad_text_room p rs bytes = bad_room (length (text_of p rs)) bytes
 
--- the number of bytes of the text, zero in a refusal. The room has so many bytes; `start` is how the call begins
-unfoldable pub write_answer : Plan → List ℕ → (List Check → List Check) → ℕ → WriteAnswer
-write_answer p rs start bytes =
-    let r = refusal (start (bad_text_room p rs bytes ∷ [])) in record { refused = r; bytes = unless r 0 (length (text_of p rs)) }
+-- the number of bytes of the text. The room has so many bytes; `start` is how the call begins
+unfoldable pub write_answer : Plan → List ℕ → (List Check → List Check) → ℕ → Result ℕ Refusal
+write_answer p rs start bytes = answered (refusal (start (bad_text_room p rs bytes ∷ []))) (length (text_of p rs))
 
 -- ---- the parts
 

@@ -1,27 +1,49 @@
--- `marked_runs` meets its contract: a refused plan, no marks, or one for each run. Search answers for too few or too many marks.
-use Rattle.exact.proofs.Ground.{◌≡◌, ◌∙◌, arith, length}
-use Rattle.rules.specs.Plan.{plan}
-use Rattle.plan.proofs.CheckedRuns.{checked-good}
-use Rattle.marked.proofs.Beginnings.{marked_refused, marked_all, marked-some, count_runs}
+-- A refused plan, no marks, or one for each run.
+use Rattle.exact.proofs.Ground.{◌≡◌, ◌∙◌, ap, arith, rules, length}
+use Rattle.exact.proofs.Numbers.{length_from}
+use Rattle.rules.specs.Plan.{plan, runs, every_run}
+use Rattle.rules.proofs.Answered.{left-early, err-again, ok-again, ok-is}
+use Rattle.marked.proofs.Beginnings.{plan-stops, plan-good, marked_all, marked-eight, marked-some}
 use Rattle.marked.proofs.marked_runs.Goals as goal
 
-pub returns-then-refused-ne0 : goal.returns-then-refused-ne0
-returns-then-refused-ne0 c = marked_refused (plan c.args.levels.now c.args.table.now) c.args.marks.now c.checked_runs-checked.ensures c.if-refused-ne0.true
+pub returns-in_err-runs : goal.returns-in_err-runs
+returns-in_err-runs c =
+    left-early _ c.from_residual.ensures.1 (plan-stops (plan c.args.levels.now c.args.table.now) c.args.marks.now c.in_err-runs.ensures)
 
-pub returns-then-marks-eq0 : goal.returns-then-marks-eq0
-returns-then-marks-eq0 c =
-    marked_all (plan c.args.levels.now c.args.table.now) c.args.marks.now c.checked_runs-checked.ensures c.if-refused-ne0.false c.if-marks-eq0.true
-
-pub standing_in-requires : goal.standing_in-requires
-standing_in-requires c =
+pub returns-then-is_empty : goal.returns-then-is_empty
+returns-then-is_empty c =
     let p = plan c.args.levels.now c.args.table.now in
-    let k = c.checked_runs-checked.ensures in
-    let z = c.if-refused-ne0.false in
-    omega (arith, count_runs p c.args.marks.now k z, (checked-good p k z).runs-high)
+    let none : length c.args.marks.now ≡ 0 = search rules in
+    rw (ok-is _ (every_run p) c.in_ok-runs.ensures) (marked_all p c.args.marks.now c.in_ok-runs.ensures none)
+
+pub returns-then-marks-count : goal.returns-then-marks-count
+returns-then-marks-count c =
+    let p = plan c.args.levels.now c.args.table.now in
+    let some : ¬ (length c.args.marks.now ≡ 0) = search rules in
+    let many : length c.in_ok-runs.runs ≡ runs p = ap length (ok-is _ (every_run p) c.in_ok-runs.ensures) ∙ length_from 0 (runs p) in
+    rw c.plain.ensures (marked-eight p c.args.marks.now c.in_ok-runs.ensures some (λ e. omega arith))
+
+pub standing_in-standing-requires : goal.standing_in-standing-requires
+standing_in-standing-requires c =
+    let p = plan c.args.levels.now c.args.table.now in
+    let many : length c.in_ok-runs.runs ≡ runs p = ap length (ok-is _ (every_run p) c.in_ok-runs.ensures) ∙ length_from 0 (runs p) in
+    omega (arith, many, (plan-good p c.args.marks.now c.in_ok-runs.ensures).runs-high)
+
+pub returns-in_err-too_few : goal.returns-in_err-too_few
+returns-in_err-too_few c =
+    let p = plan c.args.levels.now c.args.table.now in
+    let marks = c.args.marks.now in
+    let some : ¬ (length marks ≡ 0) = search rules in
+    let many : length c.in_ok-runs.runs ≡ runs p = ap length (ok-is _ (every_run p) c.in_ok-runs.ensures) ∙ length_from 0 (runs p) in
+    left-early _ c.from_residual-in_err-too_few.ensures.1
+    (rw (marked-some p marks c.in_ok-runs.ensures some (omega arith))
+    (err-again _ tt (rw (c.len.ensures, c.standing_in-standing.ensures) at c.in_err-too_few.ensures) _))
 
 pub returns : goal.returns
 returns c =
     let p = plan c.args.levels.now c.args.table.now in
-    let k = c.checked_runs-checked.ensures in
-    let one-each : length c.args.marks.now ≡ c.checked_runs-checked.result.count = omega arith in
-    c.standing_in.ensures ∙ marked-some p c.args.marks.now k c.if-refused-ne0.false c.if-marks-eq0.false one-each
+    let marks = c.args.marks.now in
+    let some : ¬ (length marks ≡ 0) = search rules in
+    let many : length c.in_ok-runs.runs ≡ runs p = ap length (ok-is _ (every_run p) c.in_ok-runs.ensures) ∙ length_from 0 (runs p) in
+    rw (c.standing_in-standing.ensures, marked-some p marks c.in_ok-runs.ensures some (omega arith))
+    (ok-again _ tt (rw (c.len.ensures, c.standing_in-standing.ensures) at c.in_ok-too_few.ensures) _)

@@ -1,8 +1,7 @@
--- Before mark f the room holds the runs that stand among the first f.
-use Rattle.exact.proofs.Ground.{not, map, ◌≡◌, ◌≤◌, eqb, length}
-use Rattle.rules.specs.Plan.{most_runs}
-use Rattle.held.proofs.Walk.{Walked}
+-- Before mark f those of the first f runs are taken down that stand.
+use Rattle.exact.proofs.Ground.{not, map, ◌≡◌, eqb, take}
+use Rattle.held.specs.Held.{standing}
 use Rattle.marked.proofs.standing_in.Given as goal
 
 abbrev pub invariant-loop-f : goal.invariant-loop-f
-invariant-loop-f l = (length l.runs ≡ most_runs) × (l.count ≤ l.f) × Walked (map (λ b. not (eqb b 0)) l.marks) l.f l.runs l.count
+invariant-loop-f l = l.standing ≡ standing (take l.f (map (λ b. not (eqb b 0)) l.marks))

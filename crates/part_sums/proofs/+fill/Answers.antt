@@ -156,7 +156,7 @@ pub bounds-levels-i-2 : goal.bounds-levels-i-2
 bounds-levels-i-2 t c = inside c.requires.counting c.requires.filling.0 (omega arith) (omega arith)
 
 pub overflow_mul-more : goal.overflow_mul-more
-overflow_mul-more t c = omega (arith, most c.requires.counting c.requires.filling.0 (omega arith) (omega arith))
+overflow_mul-more t c = rw c.from.ensures (omega (arith, most c.requires.counting c.requires.filling.0 (omega arith) (omega arith)))
 
 pub overflow_mul-place : goal.overflow_mul-place
 overflow_mul-place t c = omega (arith, low c.requires.counting c.requires.filling.0 (omega arith) (omega arith))
@@ -173,10 +173,10 @@ squares-counted-requires-clause-numbers t c =
     let F = c.requires.filling.0 in
     let some : 0 < c.args.left = omega arith in
     let there : 0 < length c.args.rest.now = omega arith in
-    (below C F some there (lent C F some there c.longer-taken.ensures), enough C F some there, C.short)
+    rw c.from.ensures (below C F some there (lent C F some there c.longer-taken.ensures), enough C F some there, C.short)
 
 pub of_size-requires : goal.of_size-requires
-of_size-requires t c = omega (arith, most c.requires.counting c.requires.filling.0 (omega arith) (omega arith))
+of_size-requires t c = rw c.from.ensures (omega (arith, most c.requires.counting c.requires.filling.0 (omega arith) (omega arith)))
 
 pub mul-requires : goal.mul-requires
 mul-requires t c =
@@ -186,7 +186,8 @@ mul-requires t c =
     let some : 0 < a.left = omega arith in
     let there : 0 < length a.rest.now = omega arith in
     let q = c.squares-counted in
-    rw (value C F some there c.of_size.type_inv c.of_size.ensures q.type_inv q.ensures.squares (lent C F some there c.longer-taken.ensures))
+    let size = rw c.from.ensures at c.of_size.ensures in
+    rw (value C F some there c.of_size.type_inv size q.type_inv q.ensures.squares (lent C F some there c.longer-taken.ensures))
     (omega (arith, value_low C F some there))
 
 pub offset_bounds-room-place : goal.offset_bounds-room-place
@@ -208,7 +209,7 @@ fill-requires t c =
       (
         counting-again p a.runs.now a.f a.digits.now a.all.now a.counters.now q.new.counters C q.ensures.counters,
         (
-          filling_on C F some there (lent C F some there c.longer-taken.ensures),
+          rw c.from.ensures (filling_on C F some there (lent C F some there c.longer-taken.ensures)),
           rw (length-set a.room.now (a.at * a.base + get_or a.rest.now 0 0 + 1) (to_z w64 (of_z w64 c.mul.result))) c.requires.filling.1,
         ),
       ),
@@ -247,9 +248,10 @@ returns-clause-room t c =
     let some : 0 < a.left = omega arith in
     let there : 0 < length a.rest.now = omega arith in
     let q = c.squares-counted in
+    let size = rw c.from.ensures at c.of_size.ensures in
     filled C F some there a.room.now
     (passed_is C F some there a.room.now
     (of c.mul.result c.mul.type_inv ∙ c.mul.ensures
-    ∙ value C F some there c.of_size.type_inv c.of_size.ensures q.type_inv q.ensures.squares (lent C F some there c.longer-taken.ensures))
+    ∙ value C F some there c.of_size.type_inv size q.type_inv q.ensures.squares (lent C F some there c.longer-taken.ensures))
     c.fill.ensures.room)
     c.fill-2.ensures.room

@@ -1,10 +1,10 @@
 -- `part_sums::fill_room` meets its contract: the walk from no column taken, in a room that holds T of the empty set.
-use Rattle.exact.proofs.Ground.{List, [], ◌≡◌, ◌∙◌, sym, ap, refl, subst, ℕ, ◌≤◌, ◌<◌, ◌+◌, arith, ℤ, le_trans, length, set, replicate, length-set, length-take-le, w64, to_z, of_z, rules}
+use Rattle.exact.proofs.Ground.{List, [], ◌≡◌, ◌∙◌, sym, ap, refl, subst, ℕ, ◌<◌, ◌+◌, arith, ℤ, le_trans, length, set, replicate, length-set, length-take-le, w64, to_z, of_z, rules}
 use Rattle.exact.proofs.Bits.{of}
 use Rattle.rules.specs.Plan.{Plan, plan, columns}
 use Rattle.parts.specs.Parts.{squares_of}
 use Rattle.part_sums.specs.Counters.{Numbers, counters_of}
-use Rattle.part_sums.specs.Stored.{stored_at, filled_by, places}
+use Rattle.part_sums.specs.Stored.{stored_at, filled_by}
 use Rattle.part_sums.proofs.Counting.{counters-long}
 use Rattle.part_sums.proofs.Places.{places-mono}
 use Rattle.part_sums.proofs.Filling.{filled-as, filled-long, counting-again}

@@ -1,5 +1,5 @@
 -- `part_sums::word` meets its contract: T of the set, and the room for its smaller parts.
-use Rattle.exact.proofs.Ground.{List, [], ◌≡◌, ◌∙◌, ap, ap₂, ℕ, arith, ℤ, ◌*ℤ◌, length, w64, to_z, of_z, rules}
+use Rattle.exact.proofs.Ground.{List, ◌≡◌, ◌∙◌, ap₂, ℕ, arith, ◌*ℤ◌, w64, to_z, of_z, rules}
 use Rattle.exact.proofs.Bits.{of}
 use Rattle.rules.specs.Plan.{Plan, plan}
 use Rattle.part_sums.specs.Stored.{stored_of}

@@ -4,7 +4,7 @@ use Rattle.exact.specs.Lists.{filled_to}
 use Rattle.exact.specs.Fractions.{ShortDenominator, zero_fraction}
 use Rattle.exact.proofs.Numbers.{mul-below}
 use Rattle.exact.proofs.Rooms.{filled-length, filled-front}
-use Rattle.rules.specs.Plan.{Plan, plan, entry, most_runs, most_columns}
+use Rattle.rules.specs.Plan.{Plan, plan, entry, most_columns}
 use Rattle.sets.specs.Sets.{choose}
 use Rattle.parts.specs.Parts.{turned}
 use Rattle.parts.proofs.TurnedEntries.{turned-length}

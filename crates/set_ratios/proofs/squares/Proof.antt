@@ -1,5 +1,5 @@
 -- `set_ratios::squares` meets its contract: the numbers use the first counters only.
-use Rattle.exact.proofs.Ground.{rules, Memᴰ, ◌≡◌, ◌∙◌, sym, ap, subst, ℕ, ◌≤◌, ◌<◌, arith, length, get_or, take}
+use Rattle.exact.proofs.Ground.{rules, Memᴰ, ◌∙◌, sym, ap, subst, ℕ, ◌≤◌, ◌<◌, arith, length, get_or, take}
 use Rattle.rules.specs.Plan.{most_runs}
 use Rattle.parts.specs.Parts.{longer}
 use Rattle.set_ratios.specs.Given.{squares_in, cleared}

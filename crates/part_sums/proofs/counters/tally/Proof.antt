@@ -1,5 +1,5 @@
 -- `part_sums::counters::tally` meets its contract: from the last number down, four in a turn.
-use Rattle.exact.proofs.Ground.{List, ◌≡◌, ◌∙◌, sym, ap, refl, ℕ, ◌≤◌, ◌<◌, ◌-◌, ◌+◌, arith, length, drop, drop-length, rules}
+use Rattle.exact.proofs.Ground.{List, ◌≡◌, ◌∙◌, sym, ap, refl, ℕ, ◌≤◌, ◌<◌, ◌-◌, ◌+◌, arith, length, drop, drop-length}
 use Rattle.part_sums.specs.Counters.{counters_of, Numbers}
 use Rattle.part_sums.proofs.Counting.{counters-as, counted-long, numbers_as}
 use Rattle.part_sums.proofs.counters.tally.Statement.{statement}

@@ -1,8 +1,7 @@
--- Before column i the row holds the columns of several levels among the first i.
-use Rattle.exact.proofs.Ground.{◌≡◌, ◌≤◌, length}
-use Rattle.rules.specs.Plan.{most_columns}
-use Rattle.plan.proofs.Several.{Walked}
+-- Before column i those of the first i columns are taken that have several levels.
+use Rattle.exact.proofs.Ground.{◌≡◌}
+use Rattle.plan.proofs.Several.{several_to}
 use Rattle.plan.proofs.routines.several_levels.Given as goal
 
 abbrev pub invariant-loop-i : goal.invariant-loop-i
-invariant-loop-i l = (length l.columns ≡ most_columns) × (l.many ≤ l.i) × Walked l.levels l.i l.columns l.many
+invariant-loop-i l = l.columns ≡ several_to l.levels l.i

@@ -1,17 +1,18 @@
 -- What is left to search, from the present entry on, is what the whole search finds; each run ends where the next begins.
-use Rattle.exact.proofs.Ground.{◌≡◌, ◌∙◌, sym, ◌≤◌, ◌<◌, ◌-◌, ◌+◌, ◌*◌, arith, length, rules}
+use Rattle.exact.proofs.Ground.{◌≡◌, ◌∙◌, sym, ◌≤◌, ◌<◌, ◌-◌, ◌+◌, ◌*◌, refl, ap, arith, length, rules}
 use Rattle.exact.specs.Lists.{first}
 use Rattle.exact.proofs.Numbers.{row_within, mul-below}
 use Rattle.exact.proofs.Searches.{first_found, first-none}
 use Rattle.rules.specs.Plan.{plan, most_runs, most_columns}
-use Rattle.rules.specs.Refusals.{first_bad_entry, accepted}
+use Rattle.std.specs.Prelude.{Ok, Err}
+use Rattle.rules.specs.Refusals.{first_bad_entry}
 use Rattle.plan.proofs.Loops.{search-on, bad_entry_in, entry-below, entry-not-below, entry-refused, entries-passed}
 use Rattle.plan.proofs.table.check_entries.Statement.{statement}
 use Rattle.plan.proofs.table.check_entries.Tie as tie
 
 abbrev invariant-loop-i : tie.invariant-loop-i
 invariant-loop-i levels table n m found₀ f i₀ found i =
-    (f < n) × (i ≤ m) × (found ≡ accepted) ×
+    (f < n) × (i ≤ m) × (found ≡ Ok tt) ×
     (first_bad_entry (plan levels table) ≡ first (bad_entry_in levels table) (f * m + i) (length table - (f * m + i)))
 
 abbrev decreases-loop-i : tie.decreases-loop-i
@@ -19,7 +20,7 @@ decreases-loop-i levels table n m found₀ f i₀ found i = m - i
 
 abbrev invariant-runs : tie.invariant-runs
 invariant-runs levels table n m found₀ f₀ found f =
-    (f ≤ n) × (found ≡ accepted) × (first_bad_entry (plan levels table) ≡ first (bad_entry_in levels table) (f * m) (length table - f * m))
+    (f ≤ n) × (found ≡ Ok tt) × (first_bad_entry (plan levels table) ≡ first (bad_entry_in levels table) (f * m) (length table - f * m))
 
 abbrev decreases-runs : tie.decreases-runs
 decreases-runs levels table n m found₀ f₀ found f = n - f
@@ -30,7 +31,7 @@ runs-holds c =
     let a = c.args in
     let z : 0 * length a.levels.now ≡ 0 = omega arith in
     let e : length a.table.now - 0 ≡ length a.table.now = omega arith in
-    (omega arith, c.accepted-found.ensures, rw (z, e))
+    (omega arith, refl, rw (z, e))
 
 -- the entry that a turn of the inner loop reads lies in the table, which is small
 inside : (c : tie.At-loop-i invariant-loop-i decreases-loop-i invariant-runs decreases-runs) →
@@ -99,7 +100,7 @@ returns-2 c =
     let a = l.args in
     let k = f * length a.levels.now + l.loop-i.i in
     let t : k < length a.table.now = omega (arith, inside l) in
-    c.placed-found.ensures ∙ entry-refused a.levels.now a.table.now f l.loop-i.i (omega arith) t
+    ap Err c.placed.ensures ∙ entry-refused a.levels.now a.table.now f l.loop-i.i (omega arith) t
     (l.loop-i.invariant.3 ∙ first_found (bad_entry_in a.levels.now a.table.now) k (length a.table.now - k) (omega arith)
     (entry-not-below a.levels.now a.table.now f l.loop-i.i (omega arith) c.if-levels-i.true))
 
@@ -111,7 +112,6 @@ check_entries_spec =
     decreases-loop-i
     invariant-runs
     decreases-runs
-    (λ c κs. search rules)
     runs-holds
     loop-holds
     (λ c. omega arith)

@@ -1,5 +1,5 @@
 -- `projection_tables::routines::count_set` meets its contract: the word, its value, and one set more of it.
-use Rattle.exact.proofs.Ground.{◌≡◌, ◌∙◌, ap, length, rules}
+use Rattle.exact.proofs.Ground.{◌∙◌, ap, length, rules}
 use Rattle.exact.proofs.Bits.{of}
 use Rattle.rules.specs.Plan.{Plan, plan}
 use Rattle.set_words.proofs.Values.{value-short}

@@ -1,12 +1,9 @@
 -- No table has more lines than its rooms have places.
-use Rattle.std.proofs.Common.{false, List, ℕ, replicate}
-use Rattle.rules.specs.Plan.{plan, every_run}
-use Rattle.projection_tables.specs.Tables.{rooms}
-use Rattle.projection_tables.proofs.Answers.{plan-lines-fit}
+use Rattle.std.proofs.Common.{false}
+use Rattle.rules.specs.Plan.{plan}
+use Rattle.published.proofs.InRooms.{in-rooms}
 use Rattle.published.proofs.tables.absolute.Goals as goal
 
 pub table_lines-requires : goal.table_lines-requires
 table_lines-requires g c =
-    let p = plan c.args.levels.now c.args.table.now in
-    let room : List ℕ = replicate 64 0 in
-    plan-lines-fit p (every_run p) false c.args.f (rooms room room room) c.absolute-answer.ensures.answer
+    let a = c.args in in-rooms (plan a.levels.now a.table.now) false a.f c.absolute-answer.result c.absolute-answer.ensures.answer

@@ -1,12 +1,9 @@
 -- No table has more lines than its rooms have places.
-use Rattle.std.proofs.Common.{true, List, ℕ, replicate}
-use Rattle.rules.specs.Plan.{plan, every_run}
-use Rattle.projection_tables.specs.Tables.{rooms}
-use Rattle.projection_tables.proofs.Answers.{plan-lines-fit}
+use Rattle.std.proofs.Common.{true}
+use Rattle.rules.specs.Plan.{plan}
+use Rattle.published.proofs.InRooms.{in-rooms}
 use Rattle.published.proofs.tables.relative.Goals as goal
 
 pub table_lines-requires : goal.table_lines-requires
 table_lines-requires g c =
-    let p = plan c.args.levels.now c.args.table.now in
-    let room : List ℕ = replicate 64 0 in
-    plan-lines-fit p (every_run p) true c.args.f (rooms room room room) c.relative-answer.ensures.answer
+    let a = c.args in in-rooms (plan a.levels.now a.table.now) true a.f c.relative-answer.result c.relative-answer.ensures.answer

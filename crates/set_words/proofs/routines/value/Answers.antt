@@ -17,7 +17,7 @@ overflow_sub-lowest c =
     let p = plan c.args.levels.now c.args.table.now in
     let given = c.requires.tabled in
     let range = level-between p c.args.runs.now c.args.columns.now given.0 given.1.0 given.1.1 in
-    let known : c.wide-lowest.result ≡ smallest (map (level p) c.args.columns.now) = c.wide-lowest.ensures ∙ c.smallest_level.ensures in
+    let known : c.from-lowest.result ≡ smallest (map (level p) c.args.columns.now) = c.from-lowest.ensures ∙ c.smallest_level.ensures in
     omega arith
 
 -- the smallest level is not 1 here
@@ -26,7 +26,7 @@ word_over-requires-2-clause-tabled c =
     let p = plan c.args.levels.now c.args.table.now in
     let given = c.requires.tabled in
     let range = level-between p c.args.runs.now c.args.columns.now given.0 given.1.0 given.1.1 in
-    let known : c.wide-lowest.result ≡ smallest (map (level p) c.args.columns.now) = c.wide-lowest.ensures ∙ c.smallest_level.ensures in
+    let known : c.from-lowest.result ≡ smallest (map (level p) c.args.columns.now) = c.from-lowest.ensures ∙ c.smallest_level.ensures in
     (given.0, (given.1.0, (omega arith, omega arith)))
 
 pub returns : goal.returns
@@ -35,7 +35,7 @@ returns c =
     let p = plan a.levels.now a.table.now in
     let given = c.requires.tabled in
     let range = level-between p a.runs.now a.columns.now given.0 given.1.0 given.1.1 in
-    let known : c.wide-lowest.result ≡ smallest (map (level p) a.columns.now) = c.wide-lowest.ensures ∙ c.smallest_level.ensures in
+    let known : c.from-lowest.result ≡ smallest (map (level p) a.columns.now) = c.from-lowest.ensures ∙ c.smallest_level.ensures in
     rw (c.if-not-relative.false)
     (c.word_over-2.ensures ∙ ap (λ l. over_pairs p a.runs.now a.columns.now (l - 1)) known
     ∙ value-several p a.runs.now a.columns.now (omega arith))

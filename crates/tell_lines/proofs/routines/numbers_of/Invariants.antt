@@ -1,0 +1,8 @@
+-- The numbers of the cells of the runs so far.
+use Rattle.exact.proofs.Ground.{◌≡◌, take}
+use Rattle.rules.specs.Plan.{plan}
+use Rattle.tell_lines.specs.Parts.{numbers_of}
+use Rattle.tell_lines.proofs.routines.numbers_of.Given as goal
+
+abbrev pub invariant-loop-run : goal.invariant-loop-run
+invariant-loop-run l = l.numbers ≡ numbers_of (plan l.levels l.table) (take l.run-index l.runs) l.others
