@@ -119,14 +119,30 @@ class Specs:
                     while not lines[end].startswith('}') and not lines[end].rstrip().endswith(';'):
                         end += 1
                     part = Block([l for l in lines[start:end + 1] if not l.startswith('#[')], [])
+                    part.lines += model_of(m.group(2), lines)
                     part.names = {m.group(2)} | {v.group(1) for l in lines[k:end] for v in [re.match(r'    (\w+)', l)] if v and m.group(1) == 'enum'}
                     parts.append(part)
-                    self.home[crate, 'declared.' + inside + m.group(2), m.group(2)] = (part, crate, module, rust_names(lines, crate))
+                    self.home[crate, 'declared.' + inside + m.group(2), m.group(2)] = (part, crate, module, {**used(lines, 'ghost use'), **rust_names(lines, crate)})
                     for name in part.names - {m.group(2)}:
                         self.home[crate, 'declared.%s%s.TheVariants' % (inside, m.group(2)), name] = (part, crate, module, {})
                 k += 1
             if parts:
                 self.files.append((path, crate, module, [], parts, {}))
+
+
+def model_of(name, lines):
+    """Of a struct with a model: what clauses see in its place, and the contracts of its methods. Of another nothing."""
+    model, methods = [], []
+    for k, line in enumerate(lines):
+        if re.match(r'impl\b.* Model for %s\b' % name, line):
+            model += ['', *(l for l in lines[k - 1:k] if l.startswith('//')), *lines[k:lines.index('}', k) + 1]]
+        elif re.match(r'impl(?:<[^>]*>)? %s\b' % name, line):
+            body, calls = lines[k:lines.index('}', k)], []
+            for at, head in enumerate(body):
+                if head.startswith('    pub fn '):
+                    calls += ['', *(l for l in body[at - 1:at] if l.startswith('    //')), *body[at:body.index('    {', at)]]
+            methods += ['', line, *calls[1:], '}']
+    return model and model + methods
 
 
 def rust_names(lines, crate):

@@ -24,7 +24,7 @@ ghost use Rattle.bench.specs.Exports.{
 use exact::listed::Numbers;
 use exact::signed;
 use held::Held;
-use rules::{Refusal, number_or};
+use rules::Refusal;
 use set_words::Engine;
 use set_words::routines::word_by_pairs;
 use sets::routines::{binomial, check_size, set_at};
@@ -49,7 +49,7 @@ pub fn bench_strikes(levels: &[u8], table: &[u8], length: u64, times: u64) -> i6
     let opened = held::calls::open(levels, table);
     let left = held::calls::strike(rounds(opened.held, times), 0).held;
     let asked = held_questions::questions::word(left, length as usize);
-    number_or(opened.answer.and(asked.answer))
+    Refusal::number_or(opened.answer.and(asked.answer))
 }
 
 // The table for size f, put into the lent rooms: the number of its lines.
@@ -75,7 +75,7 @@ pub fn bench_table(
     );
     match answer {
         Ok(lines) => signed::of_size(lines),
-        Err(refused) => number_or(Err(refused)),
+        Err(refused) => Refusal::number_or(Err(refused)),
     }
 }
 
@@ -85,7 +85,7 @@ pub fn bench_ratio(levels: &[u8], table: &[u8]) -> i64
 {
     match resolution::generalized(levels, table) {
         Ok(found) => signed::of_u64(found.thousandths),
-        Err(refused) => number_or(Err(refused)),
+        Err(refused) => Refusal::number_or(Err(refused)),
     }
 }
 
@@ -98,7 +98,7 @@ pub fn bench_set_word(levels: &[u8], table: &[u8], f: u64, columns: &[usize], by
     } else {
         Engine::Counts
     };
-    number_or(set_words::set_word_by(levels, table, f as usize, columns, engine))
+    Refusal::number_or(set_words::set_word_by(levels, table, f as usize, columns, engine))
 }
 
 // W(I) of the runs, by the engine that is named.
@@ -153,5 +153,5 @@ fn words_of_sets(levels: &[u8], table: &[u8], f: usize, by_pairs: bool) -> Resul
 pub fn bench_set_words(levels: &[u8], table: &[u8], f: u64, by_pairs: bool) -> i64
     ensures { result ≡ set_words_number (plan levels.now table.now) f }
 {
-    number_or(words_of_sets(levels, table, f as usize, by_pairs))
+    Refusal::number_or(words_of_sets(levels, table, f as usize, by_pairs))
 }

@@ -1,7 +1,7 @@
 // The arguments of a program: runs and columns, by number, and words.
 ghost use Rattle.std.specs.Prelude.{◌≡◌, ◌≤◌, length};
 ghost use Rattle.rules.specs.Plan.{most_runs};
-ghost use Rattle.console.specs.Arguments.{number_named};
+ghost use Rattle.console.specs.Arguments.{number_named, number_meant};
 ghost use Rattle.console.specs.Counts.{IsPrefixLen};
 
 use std::env::FillError;
@@ -34,11 +34,18 @@ fn number_named(bytes: &[u8]) -> Option<usize>
     Some(number)
 }
 
+// The number that an argument stands for: the one that it names, or one that no plan has.
+fn number_meant(bytes: &[u8]) -> usize
+    ensures { result ≡ number_meant bytes.now }
+{
+    number_named(bytes).unwrap_or(NO_NUMBER)
+}
+
 // The number named by one argument; there is none where the argument is missing or longer than eight bytes.
 pub fn number_at<A: Env>(env: &A, argument: usize) -> usize {
     let mut bytes = [0u8; 8];
     match env.arg(argument, &mut bytes) {
-        Ok(size) => number_named(&bytes[..size]).unwrap_or(NO_NUMBER),
+        Ok(size) => number_meant(&bytes[..size]),
         Err(_) => NO_NUMBER,
     }
 }

@@ -11,6 +11,7 @@ ghost use Rattle.console.specs.Counts.{IsPrefixLen};
 use lines::line_after;
 use rules::Refusal;
 use rules::sizes::{LONGEST_TEXT, MOST_COLUMNS, MOST_ENTRIES};
+use std::fmt::Display;
 use std::io::{Cursor, ErrorKind, Write};
 use std::rt::Files;
 use std::{fs, io, str};
@@ -161,7 +162,7 @@ pub fn say<E: Write>(errors: &mut E, bytes: &[u8]) {
 }
 
 // Writes a number to standard error, behind a space.
-pub fn say_number<E: Write>(errors: &mut E, number: usize) {
+pub fn say_number<E: Write, N: Display + Copy>(errors: &mut E, number: N) {
     let _ = write!(errors, " {number}");
 }
 
@@ -169,7 +170,7 @@ pub fn say_number<E: Write>(errors: &mut E, number: usize) {
 fn say_bytes<E: Write>(errors: &mut E, word: &[u8], bytes: &[u8]) {
     say(errors, word);
     for byte in bytes.iter().take(MOST_SHOWN) {
-        say_number(errors, usize::from(*byte));
+        say_number(errors, *byte);
     }
     say(errors, b"\n");
 }

@@ -117,9 +117,10 @@ fn side_of(held: &Held) -> Result<Side, Refusal>
     ensures { result ≡ held_side held.now }
 {
     let standing = standing_runs(held)?;
+    let runs = standing.len();
     Ok(Side {
         words: held.words,
-        runs: standing.len(),
+        runs,
         columns: held.columns,
     })
 }

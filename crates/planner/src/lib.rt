@@ -15,7 +15,7 @@ ghost use Rattle.text.specs.Bytes.{sized};
 ghost use Rattle.planner.specs.Exports.{version, bytes_in, table_number, table_filled};
 
 use exact::signed;
-use rules::{Refusal, number_or};
+use rules::Refusal;
 
 // What a C program gets: how many bytes or lines there are, or the refusal's number negated.
 fn size_or(answer: Result<usize, Refusal>) -> i64
@@ -25,7 +25,7 @@ fn size_or(answer: Result<usize, Refusal>) -> i64
 {
     match answer {
         Ok(size) => signed::of_size(size),
-        Err(refused) => number_or(Err(refused)),
+        Err(refused) => Refusal::number_or(Err(refused)),
     }
 }
 
@@ -40,7 +40,7 @@ pub fn crumb_version() -> u64
 pub fn crumb_word(levels: &[u8], table: &[u8], length: u64) -> i64
     ensures { result ≡ planner_word (plan levels.now table.now) length }
 {
-    number_or(words::word(levels, table, length as usize))
+    Refusal::number_or(words::word(levels, table, length as usize))
 }
 
 // The listing of a plan text, or the line of what refuses it, into the lent room: the number of bytes, or -7 where the room is too small.

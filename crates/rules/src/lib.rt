@@ -47,15 +47,15 @@ impl Refusal {
         }
         Ok(())
     }
-}
 
-// What a C program gets: a number, or the refusal's number negated.
-pub fn number_or(answer: Result<i64, Refusal>) -> i64
-    requires { (refusal_in answer).number ≤ largest_number }
-    ensures { result ≡ number_or answer }
-{
-    match answer {
-        Ok(value) => value,
-        Err(refused) => signed::sub(0, signed::of_u64(refused.number)),
+    // What a C program gets: a number, or the refusal's number negated.
+    pub fn number_or(answer: Result<i64, Refusal>) -> i64
+        requires { (refusal_in answer).number ≤ largest_number }
+        ensures { result ≡ number_or answer }
+    {
+        match answer {
+            Ok(value) => value,
+            Err(refused) => signed::sub(0, signed::of_u64(refused.number)),
+        }
     }
 }

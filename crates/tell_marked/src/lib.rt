@@ -33,7 +33,8 @@ pub fn tell_marked(
     let written = write_tell(levels, table, runs.as_slice(), column, others, &mut made);
     written.answer?;
     let bytes = written.bytes;
-    if room.len() < bytes {
+    let places = room.len();
+    if places < bytes {
         return Err(Refusal::plain(7));
     }
     copy(&made[..bytes], room);

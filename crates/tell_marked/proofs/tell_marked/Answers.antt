@@ -46,8 +46,8 @@ returns-in_err-written-clause-room c =
     (sym c.in_err-written.was ∙ c.write_tell-written.ensures.answer)).1
 
 -- what was written is the lines of the runs that stand
-pub returns-then-room-bytes-clause-answer : goal.returns-then-room-bytes-clause-answer
-returns-then-room-bytes-clause-answer c =
+pub returns-then-places-bytes-clause-answer : goal.returns-then-places-bytes-clause-answer
+returns-then-places-bytes-clause-answer c =
     let a = c.args in
     let p = plan a.levels.now a.table.now in
     let J = a.others.now in
@@ -56,10 +56,10 @@ returns-then-room-bytes-clause-answer c =
     let k : t.result.bytes ≡ length (tell_lines p c.in_ok-runs.runs a.column J) = omega (arith, t.ensures.bytes.behind, ap length S) in
     ap Err c.plain.ensures
     ∙ (room-small p a.marks.now a.column J a.room.now c.in_ok-runs.ensures (sym c.in_ok-written.was ∙ t.ensures.answer)
-    (omega (arith, k, c.if-room-bytes.true))).0
+    (omega (arith, k, c.if-places-bytes.true))).0
 
-pub returns-then-room-bytes-clause-room : goal.returns-then-room-bytes-clause-room
-returns-then-room-bytes-clause-room c =
+pub returns-then-places-bytes-clause-room : goal.returns-then-places-bytes-clause-room
+returns-then-places-bytes-clause-room c =
     let a = c.args in
     let p = plan a.levels.now a.table.now in
     let J = a.others.now in
@@ -67,7 +67,7 @@ returns-then-room-bytes-clause-room c =
     let S = ap₂ (λ rs (x : Result Unit Refusal). lines_beside p rs a.column J (refusal_in x)) c.as_slice.ensures c.in_ok-written.was in
     let k : t.result.bytes ≡ length (tell_lines p c.in_ok-runs.runs a.column J) = omega (arith, t.ensures.bytes.behind, ap length S) in
     (room-small p a.marks.now a.column J a.room.now c.in_ok-runs.ensures (sym c.in_ok-written.was ∙ t.ensures.answer)
-    (omega (arith, k, c.if-room-bytes.true))).1
+    (omega (arith, k, c.if-places-bytes.true))).1
 
 pub returns-clause-answer : goal.returns-clause-answer
 returns-clause-answer c =
@@ -79,7 +79,7 @@ returns-clause-answer c =
     let k : t.result.bytes ≡ length (tell_lines p c.in_ok-runs.runs a.column J) = omega (arith, t.ensures.bytes.behind, ap length S) in
     ap Ok k
     ∙ (room-large p a.marks.now a.column J a.room.now c.in_ok-runs.ensures (sym c.in_ok-written.was ∙ t.ensures.answer)
-    (omega (arith, k, c.if-room-bytes.false))).0
+    (omega (arith, k, c.if-places-bytes.false))).0
 
 pub returns-clause-room : goal.returns-clause-room
 returns-clause-room c =
@@ -91,4 +91,4 @@ returns-clause-room c =
     let k : t.result.bytes ≡ length (tell_lines p c.in_ok-runs.runs a.column J) = omega (arith, t.ensures.bytes.behind, ap length S) in
     c.copy.ensures ∙ ap (λ xs. into xs a.room.now) (front-taken t.ensures.bytes ∙ S)
     ∙ (room-large p a.marks.now a.column J a.room.now c.in_ok-runs.ensures (sym c.in_ok-written.was ∙ t.ensures.answer)
-    (omega (arith, k, c.if-room-bytes.false))).1
+    (omega (arith, k, c.if-places-bytes.false))).1

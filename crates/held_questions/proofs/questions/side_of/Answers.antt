@@ -1,5 +1,6 @@
 -- The words held are those of the standing runs.
-use Rattle.exact.proofs.Ground.{[], sym, length}
+use Rattle.exact.proofs.Ground.{[], ◌∙◌, sym, ap, length}
+use Rattle.std.specs.Prelude.{Ok}
 use Rattle.rules.proofs.Answered.{left-early}
 use Rattle.held.specs.Held.{standing_in}
 use Rattle.held.proofs.Lent.{stops, runs-are, goes-on}
@@ -18,4 +19,5 @@ unfolding held_side
 returns c =
     let h = c.args.held.now in
     let w = c.in_ok-standing.ensures in
-    rw (c.len.ensures, runs-are h w) (sym (goes-on h w [] (record { words = h.words; runs = length (standing_in h); columns = h.columns })))
+    ap (λ n. Ok (record { words = h.words; runs = n; columns = h.columns })) (c.len-runs.ensures ∙ ap length (runs-are h w))
+    ∙ sym (goes-on h w [] (record { words = h.words; runs = length (standing_in h); columns = h.columns }))
