@@ -19,7 +19,7 @@ pub fn advice(levels: &[u8], table: &[u8]) -> Result<usize, Refusal>
     routines::advice_answer(levels, table, runs.as_slice())
 }
 
-// The advice taken k times in turn, the runs in the order taken; more than k must stand.
+// The advice taken k times in turn, the runs in the order taken, zero in any place left over; more than k must stand.
 pub fn in_turn(levels: &[u8], table: &[u8], k: usize) -> Result<Numbers<3>, Refusal>
     ensures { let p = plan levels.now table.now in result ≡ turns_answer p (every_run p) (of_plan p) k }
 {

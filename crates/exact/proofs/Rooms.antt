@@ -77,6 +77,11 @@ module _ {A : Type 0} where
   pub filled-front : (n : ℕ) (d : A) (xs : List A) → take (length xs) (filled_to n d xs) ≡ xs
   filled-front n d xs = take_at xs (replicate (n - length xs) d) (length xs) refl
 
+  -- the same room by its first m places
+  pub filled-first : (n m : ℕ) (d : A) (xs : List A) {room : List A} → room ≡ filled_to n d xs → length xs ≡ m → room ≡ filled_to n d (take m room)
+  filled-first n m d xs e l =
+      e ∙ ap (filled_to n d) (sym (ap (take m) e ∙ ap (λ k. take k (filled_to n d xs)) (sym l) ∙ filled-front n d xs))
+
 -- the numbers from 0 on, and zeros
 pub number-written : (f n : ℕ) → f < n → set (from 0 f ++ replicate (n - f) 0) f f ≡ from 0 (f + 1) ++ replicate (n - (f + 1)) 0
 number-written f n h =

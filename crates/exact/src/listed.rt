@@ -1,22 +1,24 @@
 // Numbers in a row of at most N places, a list that needs no memory but its own: the library allocates nothing.
 ghost use Rattle.std.specs.Prelude.{◌≡◌, List, ℕ, [], ◌∷◌, ◌++◌, ◌≤◌, ◌<◌, length, take};
-ghost use Rattle.exact.specs.Lists.{from};
+ghost use Rattle.exact.specs.Lists.{from, filled_to};
 
 use std::marker::Model;
 
-#[derive(Debug, Drop)]
+#[derive(Clone, Copy, Debug, PartialEq, Eq)]
 pub struct Numbers<const N: usize> {
     places: [usize; N],
     many: usize,
 }
 
-// Clauses see the list of the numbers.
+// Clauses see the list of the numbers. A place past the last holds zero.
 impl<const N: usize> Model for Numbers<N> {
     ghost Value = { List ℕ };
 
     ghost view = { λ s. take s.many s.places };
 
-    ghost invariant = { λ s. s.many ≤ N };
+    ghost invariant = { λ s. (s.many ≤ N) × (length s.places ≡ N) × (s.places ≡ filled_to N 0 (take s.many s.places)) };
+
+    ghost inverse = { λ xs. record { places = filled_to N 0 xs; many = length xs } };
 }
 
 impl<const N: usize> Numbers<N> {
@@ -53,6 +55,14 @@ impl<const N: usize> Numbers<N> {
         ensures { result ≡ length self.now }
     {
         self.many
+    }
+
+    // The whole row, with zero in each place left over.
+    pub fn places(&self) -> [usize; N]
+        ensures { result ≡ filled_to N 0 self.now }
+    {
+        let Numbers { places, .. } = self;
+        *places
     }
 
     pub fn as_slice(&self) -> &[usize]

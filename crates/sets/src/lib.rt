@@ -31,7 +31,7 @@ pub fn place(m: usize, f: usize, columns: &[usize]) -> Result<usize, Refusal>
     Ok(routines::place(m, columns))
 }
 
-// The set of f of m columns at a place, in dictionary order.
+// The set of f of m columns at a place, in dictionary order, zero in any place left over.
 pub fn set_at(m: usize, f: usize, k: usize) -> Result<Numbers<4>, Refusal>
     ensures { result ≡ set_answer m f k }
 {
