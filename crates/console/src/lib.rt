@@ -185,14 +185,13 @@ fn say_malformed<E: Write>(errors: &mut E, text: &[u8], number: usize) {
 
 // Says on standard error what refuses a text, and what is malformed in it.
 pub fn say_refusal<E: Write>(errors: &mut E, refused: Refusal, text: &[u8]) {
-    let Refusal {
-        number,
-        first,
-        second,
-    } = refused;
-    let _ = writeln!(errors, "refused {number} {first} {second}");
-    if number == MALFORMED {
-        say_malformed(errors, text, first);
+    say(errors, b"refused");
+    say_number(errors, refused.number);
+    say_number(errors, refused.first);
+    say_number(errors, refused.second);
+    say(errors, b"\n");
+    if refused.number == MALFORMED {
+        say_malformed(errors, text, refused.first);
     }
 }
 

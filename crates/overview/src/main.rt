@@ -6,6 +6,11 @@ use rules::sizes::{MOST_COLUMNS, MOST_ENTRIES};
 use std::io;
 use std::io::Write;
 
+// A line of output: its word and two numbers.
+fn line<W: Write>(output: &mut W, word: &str, first: usize, second: usize) -> io::Result<()> {
+    writeln!(output, "{word} {first} {second}")
+}
+
 // The levels of a column, below its number of them, that occur in no run.
 fn show_absent<W: Write>(
     output: &mut W,
@@ -16,7 +21,7 @@ fn show_absent<W: Write>(
 ) -> io::Result<()> {
     for level in 0..count {
         if survey::level_occurs(levels, table, column, level) == Ok(false) {
-            writeln!(output, "absent {column} {level}")?;
+            line(output, "absent", column, usize::from(level))?;
         }
     }
     Ok(())
@@ -38,7 +43,7 @@ fn show_repeated<W: Write>(
     for run in 0..runs {
         if let Ok(first) = survey::first_alike(levels, table, run) {
             if first < run {
-                writeln!(output, "repeated {run} {first}")?;
+                line(output, "repeated", run, first)?;
             }
         }
     }
@@ -46,8 +51,7 @@ fn show_repeated<W: Write>(
 }
 
 fn show_plan<W: Write>(output: &mut W, levels: &[u8], table: &[u8], runs: usize) -> io::Result<()> {
-    let columns = levels.len();
-    writeln!(output, "plan {runs} {columns}")?;
+    line(output, "plan", runs, levels.len())?;
     show_columns(output, levels, table)?;
     show_repeated(output, levels, table, runs)
 }

@@ -26,7 +26,9 @@ fn show_refusal<O: Write, E: Write>(output: &mut O, errors: &mut E, refused: Ref
 
 // The line of a run ends with byte 10, as every line of an accepted text, and so ends what is said.
 fn say_run<E: Write>(errors: &mut E, run: usize, lines: &[u8]) {
-    let _ = write!(errors, "lost {run} ");
+    say(errors, b"lost");
+    say_number(errors, run);
+    say(errors, b" ");
     say(errors, line_after(lines, run));
 }
 
